@@ -74,7 +74,7 @@ members_from words xs rises same =
     (λ x e. sym (same x) ∙ (sym (member-members words x) ∙ e))
     (λ x e. member-members words x ∙ (same x ∙ e))
 
-get_or-zeros : (k i : ℕ) → ◌≡◌ {A = ℕ} (get_or (replicate k 0) i 0) 0
+pub get_or-zeros : (k i : ℕ) → ◌≡◌ {A = ℕ} (get_or (replicate k 0) i 0) 0
 get_or-zeros zero i = refl
 get_or-zeros (suc k) zero = refl
 get_or-zeros (suc k) (suc i) = get_or-zeros k i

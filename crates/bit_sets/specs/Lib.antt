@@ -1,3 +1,4 @@
 pub mod NumberSet
 pub mod NumberSetLaws
 pub mod Words
+pub mod ArcTable

@@ -1,12 +1,17 @@
 //! Sets of small numbers and sets of arcs, kept as bits of words.
 //!
-//! It stands on `smallvec` alone. A `Bits` is seen as the rising list of its numbers, an `ArcSet` as its number of calls
-//! and a set of arcs; each call answers exactly what the list or the set says. Numbers below 320 take no memory.
+//! It stands on `smallvec` and on the vocabulary of `orienteering`. A `Bits` is seen as the rising list of its numbers, an
+//! `ArcSet` as its number of calls and a set of arcs; each call answers exactly what the list or the set says. Numbers
+//! below 320 take no memory.
 #![tactic(auto)]
 
+mod arc_set;
+mod number_iter;
 mod number_set;
 #[cfg(test)]
 mod tests;
 mod words;
 
+pub use arc_set::ArcSet;
+pub use number_iter::BitsIter;
 pub use number_set::Bits;

@@ -1,6 +1,9 @@
-ghost use Rattle.std.specs.Prelude.{◌≡◌, ◌<◌, ◌↔◌, ◌/◌, ℕ, [], IfOk, IsOk, IsTrue, OnErr, OnOk, length, not};
-ghost use Rattle.bit_sets.specs.NumberSet.{IsSmall, RisesFrom, inserted, is_subset, member};
+ghost use Rattle.std.specs.Prelude.{◌≡◌, ◌<◌, ◌↔◌, ◌/◌, ℕ, List, [], IfOk, IsOk, IsTrue, OnErr, OnOk, length, not};
+ghost use Rattle.bit_sets.specs.NumberSet.{IsSmall, RisesFrom, inserted, is_subset, member, united};
+ghost use Rattle.std.specs.Iterator.{YieldsFirst};
+ghost use Rattle.std.specs.Iterator.Runs.{YieldsInOrder};
 
+use crate::number_iter::BitsIter;
 use crate::words;
 use smallvec::SmallVec;
 use std::alloc::{AllocError, Global};
@@ -47,6 +50,21 @@ impl Bits {
         words::is_subset(self.words.as_slice(), other.words.as_slice())
     }
 
+    /// How many numbers the set has.
+    pub fn len(&self) -> u64
+        ensures { result ≡ length self.now }
+    {
+        words::count(self.words.as_slice())
+    }
+
+    /// The numbers in rising order.
+    pub fn iter(&self) -> BitsIter<'_>
+        ensures numbers { result ≡ self.now }
+        ensures runs { YieldsInOrder (YieldsFirst (λ (rest : List ℕ). rest)) (λ rest. rest) }
+    {
+        BitsIter::over(self.words.as_slice())
+    }
+
     /// Adds a number, and answers whether it is new.
     pub fn insert(&mut self, x: u32) -> Result<bool, AllocError>
         ensures added { OnOk result (self.new ≡ inserted x self.old) }
@@ -65,6 +83,24 @@ impl Bits {
         ensures fresh { result ≡ not (member x self.old) }
     {
         words::set_bit(&mut self.words, x)
+    }
+
+    /// The numbers of both sets, on this set's allocator.
+    pub fn union(&self, other: &Bits) -> Result<Bits, AllocError>
+        ensures both { IfOk result (λ union. union ≡ united self.now other.now) }
+        ensures small { IsSmall self.now → IsSmall other.now → IsOk result }
+    {
+        let alloc = *self.words.allocator();
+        let mine = self.words.as_slice();
+        let theirs = other.words.as_slice();
+        if mine.len() < theirs.len() {
+            return Ok(Bits {
+                words: words::joined(alloc, theirs, mine)?,
+            });
+        }
+        Ok(Bits {
+            words: words::joined(alloc, mine, theirs)?,
+        })
     }
 
     /// A copy, on the same allocator.
