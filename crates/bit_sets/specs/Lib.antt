@@ -1,0 +1,3 @@
+pub mod NumberSet
+pub mod NumberSetLaws
+pub mod Words
