@@ -26,8 +26,12 @@ calls p = length p.sites - 2
 abbrev pub end_place : Problem → ℕ
 end_place p = calls p + 1
 
+-- a call, where there are n of them
+abbrev pub IsCallAmong : ℕ → ℕ → Type 0
+IsCallAmong n i = (1 ≤ i) × (i ≤ n)
+
 abbrev pub IsCall : Problem → ℕ → Type 0
-IsCall p i = (1 ≤ i) × (i ≤ calls p)
+IsCall p i = IsCallAmong (calls p) i
 
 -- an arc leads from the start or a call to another place that is a call or the end, but not from the start to the end
 pub record IsArc (n i j : ℕ) : Type 0 where

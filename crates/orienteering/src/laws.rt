@@ -4,7 +4,7 @@ ghost use Rattle.orienteering.specs.Instance.{LengthsAreGreatest};
 ghost use Rattle.orienteering.specs.Limits.{LengthsAreShort};
 ghost use Rattle.orienteering.specs.Examples.{WorkedValues};
 ghost use Rattle.orienteering.specs.Frontier.{WholeWithoutBoxes};
-ghost use Rattle.orienteering.specs.PlanCheck.{PlansAreAccepted};
+ghost use Rattle.orienteering.specs.PlanCheck.{ToursAreAccepted, PlansAreAccepted};
 ghost use Rattle.orienteering.specs.Duality.{Duality};
 ghost use Rattle.orienteering.specs.Decide.{TreesCover, AcceptsFrontiers};
 ghost use Rattle.orienteering.specs.Weight.{AcceptedAreSmall};
@@ -20,7 +20,8 @@ pub fn laws_of_lengths()
 
 /// Plans and frontiers.
 pub fn laws_of_plans()
-    ensures accepted { PlansAreAccepted }
+    ensures tours { ToursAreAccepted }
+    ensures plans { PlansAreAccepted }
     ensures whole { WholeWithoutBoxes }
 {}
 

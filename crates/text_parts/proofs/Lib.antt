@@ -1,0 +1,12 @@
+pub mod Laws
+pub mod Parts
+pub mod Lists
+pub mod Keywords
+pub mod Numbers
+pub mod Steps
+pub mod Loops
+pub mod Appends
+pub mod Fronts
+pub mod Cursors
+pub mod Sequences
+pub mod Counted

@@ -1,0 +1,4 @@
+pub mod Held
+pub mod NextCall
+pub mod Sums
+pub mod SharedCall
