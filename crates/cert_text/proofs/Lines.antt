@@ -1,12 +1,12 @@
 -- Calls, entries, tours and points are read exactly: the value is the one whose text stands there, and the stop is where
 -- no text goes on.
-use Rattle.std.proofs.Common.{◌≡◌, ℕ, ◌^◌, ◌<◌, ◌≤◌, List, [], ◌∷◌, ◌++◌, length, Ok, refl, sym, ap, subst, ◌∙◌, arith, ℤ}
+use Rattle.std.proofs.Common.{◌≡◌, ℕ, List, [], ◌∷◌, ◌++◌, length, Ok, refl, sym, ap, subst, ◌∙◌, arith, ℤ}
 use Rattle.std.specs.Prelude.{decimal, codes}
 use Rattle.std.specs.Fmt.{signed_decimal}
 use Rattle.std.specs.List.{flat_map}
 use Rattle.std.proofs.lemmas.List.{append-nil}
 use Rattle.orienteering.specs.declared.Listed.{Listed}
-use Rattle.text_parts.specs.Reading.{U32, U64, Reading, word_at}
+use Rattle.text_parts.specs.Reading.{U32, U64, word_at}
 use Rattle.text_parts.specs.Reads.{StartsOutside, Reads, NoByte}
 use Rattle.text_parts.specs.Texts.{ended_number, WordText, NumberText, SignedText, IsDigit, IsTextOf}
 use Rattle.text_parts.proofs.Laws.{Joins, bind, Follows, bind_reads}

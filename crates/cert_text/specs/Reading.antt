@@ -114,7 +114,10 @@ cert_at bytes = do
   points ← counted_at (codes "points ") point_at head.1
   nodes ← counted_at (codes "nodes ") node_at points.1
   end ← word_at (codes "end\n") nodes.1
-  Ok (record { customers = head.0.customers; team = head.0.team; scale = head.0.scale; points = points.0; nodes = nodes.0 }, end.1)
+  Ok (
+    record { customers = head.0.customers; team = head.0.team; scale = head.0.scale; points = points.0; nodes = nodes.0 },
+    end.1,
+  )
 
 -- all of the bytes
 unfoldable pub whole_at : List ℕ → Result Certificate ℕ

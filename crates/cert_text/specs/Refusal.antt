@@ -1,5 +1,5 @@
 -- Where bytes are refused, and why; and the laws of the texts.
-use Rattle.std.specs.Prelude.{◌≡◌, ℕ, ◌-◌, ◌↔◌, ◌⊎◌, List, [], ◌++◌, length}
+use Rattle.std.specs.Prelude.{◌≡◌, ℕ, ◌-◌, ◌↔◌, ◌⊎◌, List, ◌++◌, length}
 use Rattle.text_parts.specs.declared.stop.TextCause.{TextCause}
 use Rattle.text_parts.specs.declared.stop.TextCause.TheVariants.{End}
 use Rattle.text_parts.specs.declared.stop.ReadFail.{ReadFail}
@@ -42,7 +42,8 @@ HasOneText = (c d : Certificate) → IsCert c → IsCert d → cert_text c ≡ c
 
 -- no text begins another
 abbrev pub BeginsNoOther : Type 0
-BeginsNoOther = (c d : Certificate) (x y : List ℕ) → IsCert c → IsCert d → cert_text c ++ x ≡ cert_text d ++ y → (c ≡ d) × (x ≡ y)
+BeginsNoOther =
+    (c d : Certificate) (x y : List ℕ) → IsCert c → IsCert d → cert_text c ++ x ≡ cert_text d ++ y → (c ≡ d) × (x ≡ y)
 
 -- bytes are a text, or stop being the beginning of one at a place up to which they can be completed to one
 abbrev pub StopsWhereNoneGoesOn : Type 0

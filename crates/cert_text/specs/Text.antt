@@ -2,7 +2,7 @@
 -- decimal digits without a leading zero.
 use Rattle.std.specs.Prelude.{ℕ, ◌<◌, ◌^◌, List, ◌++◌, length, decimal, codes, ℤ}
 use Rattle.std.specs.Fmt.{signed_decimal}
-use Rattle.std.specs.List.{flat_map, AllByRecursion}
+use Rattle.std.specs.List.{flat_map}
 use Rattle.text_parts.specs.Texts.{ended_number, counted_text, IsSigned64, AreItems}
 use Rattle.orienteering.specs.declared.Listed.{Listed}
 use Rattle.orienteering.specs.declared.Price.{Price}
@@ -29,7 +29,10 @@ tour_text calls = codes "tour " ++ (decimal (length calls) ++ calls_text calls)
 -- profit, time and number of tours, and the tours
 abbrev pub point_text : Listed → List ℕ
 point_text listed =
-    codes "point " ++ (ended_number (codes " ") listed.point.profit ++ (ended_number (codes " ") listed.point.time ++ (ended_number (codes "\n") (length listed.plan) ++ flat_map tour_text listed.plan)))
+    codes "point "
+    ++ (ended_number (codes " ") listed.point.profit
+    ++ (ended_number (codes " ") listed.point.time
+    ++ (ended_number (codes "\n") (length listed.plan) ++ flat_map tour_text listed.plan)))
 
 -- ---- nodes
 
@@ -46,10 +49,13 @@ entry_text entry = codes " " ++ (decimal entry.0 ++ (codes " " ++ signed_decimal
 
 -- both lists of a cut, behind their numbers of items
 abbrev pub lists_text : List (ℕ × ℤ) → List ℕ → List ℕ
-lists_text entries critical = ended_number (codes " ") (length entries) ++ (decimal (length critical) ++ (flat_map entry_text entries ++ calls_text critical))
+lists_text entries critical =
+    ended_number (codes " ") (length entries)
+    ++ (decimal (length critical) ++ (flat_map entry_text entries ++ calls_text critical))
 
 abbrev pub cut_text : Price → List ℕ → List ℕ
-cut_text price critical = ended_number (codes " ") price.alpha ++ (ended_number (codes " ") price.beta ++ lists_text price.pi critical)
+cut_text price critical =
+    ended_number (codes " ") price.alpha ++ (ended_number (codes " ") price.beta ++ lists_text price.pi critical)
 
 abbrev pub node_text : Node → List ℕ
 node_text (Profit v) = codes "profit " ++ ended_number (codes "\n") v
@@ -69,10 +75,16 @@ version_line One = codes "PARETO 1\n"
 
 -- number of calls, members of the team, and scale
 abbrev pub instance_line : ℕ → ℕ → ℕ → List ℕ
-instance_line customers team scale = codes "instance " ++ (ended_number (codes " ") customers ++ (ended_number (codes " ") team ++ ended_number (codes "\n") scale))
+instance_line customers team scale =
+    codes "instance "
+    ++ (ended_number (codes " ") customers ++ (ended_number (codes " ") team ++ ended_number (codes "\n") scale))
 
 abbrev pub cert_text : Certificate → List ℕ
-cert_text c = version_line One ++ (instance_line c.customers c.team c.scale ++ (counted_text (codes "points ") point_text c.points ++ (counted_text (codes "nodes ") node_text c.nodes ++ codes "end\n")))
+cert_text c =
+    version_line One
+    ++ (instance_line c.customers c.team c.scale
+    ++ (counted_text (codes "points ") point_text c.points
+    ++ (counted_text (codes "nodes ") node_text c.nodes ++ codes "end\n")))
 
 -- ---- what has a text: numbers of their types, lists that are shorter than 2^64
 

@@ -3,10 +3,12 @@ use orienteering::{Entries, Listed, Plan, Point, Price, Reason, Tour};
 use std::test::*;
 
 /// Two points beside the empty plan, and one open node.
-const OPEN_BOX: &[u8] = b"PARETO 1\ninstance 2 1 1\npoints 3\npoint 0 0 0\npoint 5 6 1\ntour 1 1\npoint 7 8 1\ntour 1 2\nnodes 1\nopen\nend\n";
+const OPEN_BOX: &[u8] =
+    b"PARETO 1\ninstance 2 1 1\npoints 3\npoint 0 0 0\npoint 5 6 1\ntour 1 1\npoint 7 8 1\ntour 1 2\nnodes 1\nopen\nend\n";
 
 /// The same points, and a tree that leaves no box.
-const CLOSED: &[u8] = b"PARETO 1\ninstance 2 1 1\npoints 3\npoint 0 0 0\npoint 5 6 1\ntour 1 1\npoint 7 8 1\ntour 1 2\nnodes 19\nprofit 0\ndominated\ncount 0\nstuck box\ntime 5\ncut 0 1 0 0\ncutoff 1\nprofit 5\ndominated\ntime 7\narc 0 1\ncut 1 0 1 0 1 -2\ncutoff 1\ncut 0 1 0 0\ncutoff 1\nprofit 7\ndominated\ncut 1 0 0 0\ncutoff 1\nend\n";
+const CLOSED: &[u8] =
+    b"PARETO 1\ninstance 2 1 1\npoints 3\npoint 0 0 0\npoint 5 6 1\ntour 1 1\npoint 7 8 1\ntour 1 2\nnodes 19\nprofit 0\ndominated\ncount 0\nstuck box\ntime 5\ncut 0 1 0 0\ncutoff 1\nprofit 5\ndominated\ntime 7\narc 0 1\ncut 1 0 1 0 1 -2\ncutoff 1\ncut 0 1 0 0\ncutoff 1\nprofit 7\ndominated\ncut 1 0 0 0\ncutoff 1\nend\n";
 
 const HEAD: &[u8] = b"PARETO 1\ninstance 2 1 1\n";
 
@@ -44,7 +46,16 @@ fn every_part_is_written(rt: HostRuntime) -> Result<(), Fail> {
         pi: Entries::from_list(vec![in rt.alloc(); (1, i64::MIN), (2, 30)]?),
     };
     let critical = Tour::from_calls(vec![in rt.alloc(); 7]?);
-    let mut nodes = vec![in rt.alloc(); Node::Profit { v: 5 }, Node::Time { v: 0 }, Node::Count { c: 1 }, Node::Arc { i: 0, j: 2 }, Node::Cut { price, critical }, Node::Dominated, Node::Cutoff { k: 1 }, Node::Left]?;
+    let mut nodes = vec![in rt.alloc();
+        Node::Profit { v: 5 },
+        Node::Time { v: 0 },
+        Node::Count { c: 1 },
+        Node::Arc { i: 0, j: 2 },
+        Node::Cut { price, critical },
+        Node::Dominated,
+        Node::Cutoff { k: 1 },
+        Node::Left,
+    ]?;
     for reason in [
         Reason::NoBox,
         Reason::Cycle,
@@ -57,7 +68,10 @@ fn every_part_is_written(rt: HostRuntime) -> Result<(), Fail> {
     }
     let cert = Cert::from_parts(2, 32, 1000, vec![in rt.alloc(); listed]?, nodes);
     let text = write_cert(rt.alloc(), &cert)?;
-    assert!(rt; text.as_slice() == b"PARETO 1\ninstance 2 32 1000\npoints 1\npoint 12 18446744073709551615 2\ntour 2 2 1\ntour 0\nnodes 14\nprofit 5\ntime 0\ncount 1\narc 0 2\ncut 4294967295 0 2 1 1 -9223372036854775808 2 30 7\ndominated\ncutoff 1\nopen\nstuck box\nstuck cycle\nstuck late\nstuck side\nstuck many\nstuck few\nend\n".as_slice());
+    assert!(rt;
+        text.as_slice()
+            == b"PARETO 1\ninstance 2 32 1000\npoints 1\npoint 12 18446744073709551615 2\ntour 2 2 1\ntour 0\nnodes 14\nprofit 5\ntime 0\ncount 1\narc 0 2\ncut 4294967295 0 2 1 1 -9223372036854775808 2 30 7\ndominated\ncutoff 1\nopen\nstuck box\nstuck cycle\nstuck late\nstuck side\nstuck many\nstuck few\nend\n".as_slice()
+    );
     let again = read_cert(rt.alloc(), text.as_slice()).ok().ok_or("a text")?;
     let text_again = write_cert(rt.alloc(), &again)?;
     assert!(rt; text_again.as_slice() == text.as_slice());
@@ -67,11 +81,18 @@ fn every_part_is_written(rt: HostRuntime) -> Result<(), Fail> {
 #[test]
 fn certificate_text_places(rt: HostRuntime) -> Result<(), Fail> {
     for n in 0..OPEN_BOX.len() {
-        assert_eq!(rt; refused(&rt, &OPEN_BOX[..n]), Some((n as u64, TextCause::End)), "{n} bytes");
+        assert_eq!(rt;
+            refused(&rt, &OPEN_BOX[..n]),
+            Some((n as u64, TextCause::End)),
+            "{n} bytes"
+        );
     }
     let mut longer = Vec::from_slice(rt.alloc(), OPEN_BOX)?;
     longer.push(b'\n')?;
-    assert_eq!(rt; refused(&rt, longer.as_slice()), Some((OPEN_BOX.len() as u64, TextCause::Syntax)));
+    assert_eq!(rt;
+        refused(&rt, longer.as_slice()),
+        Some((OPEN_BOX.len() as u64, TextCause::Syntax))
+    );
     Ok(())
 }
 
@@ -104,8 +125,14 @@ fn hostile_texts_are_refused_where_none_goes_on(rt: HostRuntime) -> Result<(), F
         (b"points 0\nnodes 1\ncux\n", syntax(19)),
         (b"points 0\nnodes 1\ncutoff +1\n", syntax(24)),
         (b"points 0\nnodes 1\ncut 1 0 1 0 1 -0\n", syntax(32)),
-        (b"points 0\nnodes 1\ncut 1 0 1 0 1 -9223372036854775809\n", syntax(50)),
-        (b"points 0\nnodes 1\ncut 1 0 18446744073709551615 0 1 2", end(51)),
+        (
+            b"points 0\nnodes 1\ncut 1 0 1 0 1 -9223372036854775809\n",
+            syntax(50),
+        ),
+        (
+            b"points 0\nnodes 1\ncut 1 0 18446744073709551615 0 1 2",
+            end(51),
+        ),
         (b"points 0\nnodes 1\nstuck boy\n", syntax(25)),
         (b"points 0\nnodes 1\nopen \nend\n", syntax(21)),
         (b"points 0\nnodes 0\nend", end(20)),

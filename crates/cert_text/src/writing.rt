@@ -12,7 +12,9 @@ use crate::node::{NodeLine, ReasonWords};
 use orienteering::{Listed, Node, Price, Tour};
 use std::alloc::{AllocError, Global};
 use text_parts::part::Words;
-use text_parts::writing::{WritePart, put, put_all, put_counted, put_ended, put_line, put_number, put_signed};
+use text_parts::writing::{
+    WritePart, put, put_all, put_counted, put_ended, put_line, put_number, put_signed,
+};
 
 impl WritePart for SpacedCall {
     type Value = u32;

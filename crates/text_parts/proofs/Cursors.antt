@@ -34,8 +34,7 @@ module _ {A : Type 0} {Spells : A → List ℕ → Type 0} {More : ℕ → Type 
       let f = laws.found (drop at bytes) rest a (ap read (sym (take_rest bytes at)) ∙ e) in
       let lengths : length bytes - at ≡ length f.text + length rest = sym (length-drop at bytes) ∙ ap length f.splits ∙ length-append f.text rest in
       let further : new ≡ at + length f.text = omega (arith, lengths, within) in
-      let behind : rest ≡ drop new bytes = sym (drop_at f.text rest (length f.text) refl) ∙ ap (drop (length f.text)) (sym f.splits) ∙ drop-drop (length f.text) at bytes ∙ ap (λ (n : ℕ). drop n bytes) (sym further) in
-      (
+      let behind : rest ≡ drop new bytes = sym (drop_at f.text rest (length f.text) refl) ∙ ap (drop (length f.text)) (sym f.splits) ∙ drop-drop (length f.text) at bytes ∙ ap (λ (n : ℕ). drop n bytes) (sym further) in (
         record {
           text = f.text;
           spelled = f.spelled;

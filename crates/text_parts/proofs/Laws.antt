@@ -2,7 +2,7 @@
 use Rattle.std.proofs.Common.{◌≡◌, ℕ, List, [], ◌∷◌, ◌++◌, Result, Ok, Err, refl, sym, ap, subst, ◌∙◌, inl, inr, ◌⊎◌, append_assoc}
 use Rattle.std.proofs.lemmas.List.{append-nil}
 use Rattle.text_parts.specs.Stops.{Stops}
-use Rattle.text_parts.specs.Reads.{IsSpelling, StartsOutside, Ends, Found, Reads, NoByte}
+use Rattle.text_parts.specs.Reads.{IsSpelling, StartsOutside, Ends, Found, Reads}
 use Rattle.text_parts.specs.Reading.{Reading, ◌>>=◌}
 
 -- ---- lists that begin alike

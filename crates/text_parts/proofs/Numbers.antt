@@ -1,14 +1,13 @@
 -- Numbers in digits: the reading finds the longest spelling of a number that is at most the greatest one.
 use Rattle.std.proofs.Common.{◌≡◌, ℕ, zero, suc, ◌+◌, ◌-◌, ◌*◌, ◌/◌, ◌%◌, ◌^◌, ◌<◌, ◌≤◌, Bool, true, false, cond, eqb, ◌&&◌, List, [], ◌∷◌, ◌++◌, length, get_or, Result, Ok, Err, refl, sym, ap, subst, ◌∙◌, inl, inr, append_assoc, arith, ℤ, pos, negsuc}
 use Rattle.std.specs.Prelude.{nat_le, decimal}
-use Rattle.std.specs.Fmt.{signed_decimal}
 use Rattle.std.specs.Int.{is_in_range}
 use Rattle.std.proofs.lemmas.Bool.Decides.{nat_tests}
 use Rattle.std.proofs.lemmas.Fmt.{decimal_digit, decimal_step, decimal_by_steps, first_decimal, decimal_nonempty}
 use Rattle.std.proofs.lemmas.List.{append-nil}
 use Rattle.text_parts.specs.Stops.{Stops}
 use Rattle.text_parts.specs.Reading.{Reading, mapped, word_at, digits_after, positive_at, number_at, signed_at}
-use Rattle.text_parts.specs.Texts.{WordText, IsDigit, IsSigned64, NumberText, SignedText}
+use Rattle.text_parts.specs.Texts.{WordText, IsDigit, NumberText, SignedText}
 use Rattle.text_parts.specs.Reads.{IsSpelling, StartsOutside, Found, Reads, NoByte}
 use Rattle.text_parts.proofs.Laws.{ok_value}
 use Rattle.text_parts.proofs.Lists.{reads_same}

@@ -38,7 +38,8 @@ abbrev pub Asks : {A : Type 0} → (A → List ℕ → Type 0) → Place → Pla
 Asks Spells old new (Ok a) = Moves Spells old new a
 Asks Spells old new (Err stop) = StopsAt (IsSpelling Spells) old new stop
 
--- the same as a reading of what stands behind the place, for callers that make a reading of several calls
+-- The same as a reading of what stands behind the place. Calls of which each continues so are together a reading
+-- that continues so.
 abbrev pub Continues : {A : Type 0} → Reading A → Place → Place → Result A TextStop → Type 0
 Continues read old new (Ok a) = (new.bytes ≡ old.bytes) × (read (rest_of old) ≡ Ok (a, rest_of new))
-Continues read old new (Err stop) = (new ≡ old) × (read (rest_of old) ≡ Err (length old.bytes - stop.at))
+Continues read old new (Err stop) = (new.bytes ≡ old.bytes) × (read (rest_of old) ≡ Err (length old.bytes - stop.at))

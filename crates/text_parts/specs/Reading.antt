@@ -33,12 +33,16 @@ mapped f read bytes = read bytes >>= λ x. Ok (f x.0, x.1)
 -- the digits behind n, as long as the number is at most max
 unfoldable pub digits_after : ℕ → ℕ → List ℕ → ℕ × List ℕ
 digits_after max n [] = (n, [])
-digits_after max n (b ∷ bytes) = if is_in_range 48 57 b && nat_le (10 * n + (b - 48)) max then digits_after max (10 * n + (b - 48)) bytes else (n, b ∷ bytes)
+digits_after max n (b ∷ bytes) =
+    if is_in_range 48 57 b && nat_le (10 * n + (b - 48)) max then digits_after max (10 * n + (b - 48)) bytes
+    else (n, b ∷ bytes)
 
 -- a number from 1 to max
 unfoldable pub positive_at : ℕ → List ℕ → Result (ℕ × List ℕ) ℕ
 positive_at max [] = Err 0
-positive_at max (b ∷ bytes) = if is_in_range 49 57 b && nat_le (b - 48) max then Ok (digits_after max (b - 48) bytes) else Err (suc (length bytes))
+positive_at max (b ∷ bytes) =
+    if is_in_range 49 57 b && nat_le (b - 48) max then Ok (digits_after max (b - 48) bytes)
+    else Err (suc (length bytes))
 
 -- a number from 0 to max
 unfoldable pub number_at : ℕ → List ℕ → Result (ℕ × List ℕ) ℕ
@@ -46,7 +50,8 @@ number_at max bytes = on_byte 48 (λ rest. Ok (0, rest)) (positive_at max) bytes
 
 -- a number of 64 bits with a sign
 unfoldable pub signed_at : List ℕ → Result (ℤ × List ℕ) ℕ
-signed_at bytes = on_byte 45 (mapped (λ n. negsuc (n - 1)) (positive_at (2 ^ 63))) (mapped pos (number_at (2 ^ 63 - 1))) bytes
+signed_at bytes =
+    on_byte 45 (mapped (λ n. negsuc (n - 1)) (positive_at (2 ^ 63))) (mapped pos (number_at (2 ^ 63 - 1))) bytes
 
 -- the first word where it stands, else the others; where none stands, the stop that is farthest on
 abbrev pub or_else : {K : Type 0} → K → Result (Unit {0} × List ℕ) ℕ → Result (K × List ℕ) ℕ → Result (K × List ℕ) ℕ

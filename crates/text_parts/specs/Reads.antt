@@ -14,7 +14,8 @@ StartsOutside More bytes = (b : ℕ) (behind : List ℕ) → bytes ≡ b ∷ beh
 
 -- no spelling goes on behind the text with the first of the bytes
 abbrev pub Ends : {A : Type 0} → (A → List ℕ → Type 0) → List ℕ → List ℕ → Type 0
-Ends Spells text bytes = (b : ℕ) (behind tail : List ℕ) (a : _) → bytes ≡ b ∷ behind → Spells a (text ++ b ∷ tail) → ⊥
+Ends Spells text bytes =
+    (b : ℕ) (behind tail : List ℕ) (a : _) → bytes ≡ b ∷ behind → Spells a (text ++ b ∷ tail) → ⊥
 
 -- the value is spelled at the front of the bytes, and no longer spelling stands there
 pub record Found {A : Type 0} (Spells : A → List ℕ → Type 0) (bytes : List ℕ) (a : A) (rest : List ℕ) : Type 0 where

@@ -11,7 +11,8 @@ ended_number end n = decimal n ++ end
 
 -- a line with a word and the number of the items, and the items
 abbrev pub counted_text : {A : Type 0} → List ℕ → (A → List ℕ) → List A → List ℕ
-counted_text word item_text items = word ++ (ended_number (codes "\n") (length items) ++ flat_map item_text items)
+counted_text word item_text items =
+    word ++ (ended_number (codes "\n") (length items) ++ flat_map item_text items)
 
 -- ---- which texts spell a value
 

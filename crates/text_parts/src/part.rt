@@ -19,7 +19,11 @@ pub trait ReadPart {
 }
 
 /// So many parts, one behind the other. The count comes from the bytes, so no room is made for it.
-pub fn list<P: ReadPart>(alloc: Global, bytes: &[u8], count: u64) -> Result<(Vec<P::Value>, &[u8]), ReadFail>
+pub fn list<P: ReadPart>(
+    alloc: Global,
+    bytes: &[u8],
+    count: u64,
+) -> Result<(Vec<P::Value>, &[u8]), ReadFail>
     ensures { GivesInMemory (λ x. (x.0.items, x.1.now)) result (list_at count P.reading bytes.now) }
 {
     let mut items = Vec::new(alloc);
@@ -58,7 +62,10 @@ pub trait Words {
 }
 
 /// The first of the values whose word stands at the front; else the stop that is farthest on.
-pub fn find_word<'a, W: Words>(bytes: &'a [u8], values: &[W::Value]) -> Result<(W::Value, &'a [u8]), Stop>
+pub fn find_word<'a, W: Words>(
+    bytes: &'a [u8],
+    values: &[W::Value],
+) -> Result<(W::Value, &'a [u8]), Stop>
     ensures { Gives (λ x. (x.0, x.1.now)) result (one_of W.word values.now bytes.now) }
 {
     let mut left = bytes.len();

@@ -1,6 +1,7 @@
 ghost use Rattle.std.specs.Prelude.{◌≡◌, ◌^◌, ◌-◌, ◌<◌, codes, decimal, ℕ, Bool, true, false};
 ghost use Rattle.text_parts.specs.Reading.{U64, ended_number_at};
 ghost use Rattle.text_parts.specs.Texts.{ended_number};
+ghost use Rattle.text_parts.specs.Place.{Continues};
 
 use super::*;
 use crate::part::{ReadPart, Words, counted, find_word};
@@ -32,6 +33,16 @@ impl WritePart for Count {
     fn write(value: &u64, out: &mut Vec<u8>) -> Result<(), AllocError> {
         put_ended(out, *value, b";")
     }
+}
+
+/// Calls of a cursor, one behind the other, are read as their parts are.
+#[tactic(auto, unfolding(crate::specs::Reading::ended_number_at))]
+fn ended(cursor: &mut Cursor<'_>, max: u64, end: &[u8]) -> Result<u64, TextStop>
+    ensures { Continues (ended_number_at max end.now) cursor.old cursor.new result }
+{
+    let n = cursor.number(max)?;
+    cursor.word(end)?;
+    Ok(n)
 }
 
 /// Yes or no, where the two words begin alike.
@@ -111,4 +122,7 @@ fn a_cursor_moves_and_stops(rt: HostRuntime) {
     assert_eq!(rt; cursor.number(0), Err(syntax(11)));
     assert_eq!(rt; cursor.number(5), Ok(5));
     assert_eq!(rt; cursor.signed(), Err(end(12)));
+    let mut cursor = Cursor::new(b"3 4;");
+    assert_eq!(rt; ended(&mut cursor, 9, b" "), Ok(3));
+    assert_eq!(rt; ended(&mut cursor, 9, b" "), Err(syntax(3)));
 }

@@ -80,7 +80,11 @@ pub fn put_all<P: WritePart>(out: &mut Vec<u8>, items: &[P::Value]) -> Result<()
 
 /// Puts a line with a word and the number of the items, and the items.
 #[tactic(auto, using(crate::proofs::Appends::appends))]
-pub fn put_counted<P: WritePart>(out: &mut Vec<u8>, first: &[u8], items: &[P::Value]) -> Result<(), AllocError>
+pub fn put_counted<P: WritePart>(
+    out: &mut Vec<u8>,
+    first: &[u8],
+    items: &[P::Value],
+) -> Result<(), AllocError>
     ensures text { OnOk result (out.new.items ≡ out.old.items ++ counted_text first.now P.text items.now) }
     ensures valid { OnOk result (AreItems P.valid items.now) }
 {
