@@ -1,4 +1,4 @@
--- A decimal number of a text, in ten-thousandths.
+-- The decimal of a text, in ten-thousandths.
 use Rattle.std.specs.Prelude.{ℕ, ◌+◌, ◌*◌, ◌-◌, ◌&&◌, Bool, not, List, length, slice_index, ℤ, pos, neg_ℤ, Result, Ok, Err, nat_lt, ◌==◌, if◌then◌else◌}
 use Rattle.std.specs.List.{before_first, after_first, list_all}
 use Rattle.std.specs.Str.{all_ascii_digits}
@@ -6,6 +6,12 @@ use Rattle.std.specs.Str.Parse.{digits_value, starts_with_minus, without_leading
 use Rattle.fixed_num.specs.declared.decimal.Decimal.{Decimal}
 use Rattle.fixed_num.specs.declared.decimal.NumRefusal.{NumRefusal}
 use Rattle.fixed_num.specs.declared.decimal.NumRefusal.TheVariants.{Empty, BadByte, TooLong, OutOfRange}
+
+abbrev pub most_bytes : ℕ
+most_bytes = 40
+
+abbrev pub most_whole : ℕ
+most_whole = 999999999
 
 abbrev pub is_point : ℕ → Bool
 is_point b = b == 46
@@ -40,8 +46,8 @@ unfoldable pub decimal_of : List ℕ → Result Decimal NumRefusal
 decimal_of text =
     let whole = whole_digits text in
     let behind = decimal_digits text in
-    if nat_lt 40 (length text) then Err TooLong
-    else (if not (all_ascii_digits whole && all_ascii_digits behind) then Err BadByte
-    else (if (length whole == 0) && (length behind == 0) then Err Empty
-    else (if nat_lt 999999999 (digits_value 10 whole) then Err OutOfRange
-    else Ok (decimal_from (starts_with_minus text) (digits_value 10 whole) behind))))
+    if nat_lt most_bytes (length text) then Err TooLong
+    else if not (all_ascii_digits whole && all_ascii_digits behind) then Err BadByte
+    else if (length whole == 0) && (length behind == 0) then Err Empty
+    else if nat_lt most_whole (digits_value 10 whole) then Err OutOfRange
+    else Ok (decimal_from (starts_with_minus text) (digits_value 10 whole) behind)

@@ -4,12 +4,16 @@ ghost use Rattle.std.specs.Prelude.{◌≡◌, ◌≤◌, ◌<◌, ◌+◌, ◌*
 ghost use Rattle.orienteering.specs.Instance.{scaled_length, IsGreatestLength};
 ghost use Rattle.fixed_num.specs.Length.{scale_number};
 
-/// How many scaled units a unit of the coordinates has: lengths and times are kept as whole numbers of scaled units.
+/// How many scaled units make one unit of a file: lengths and times are whole numbers of scaled units.
 #[derive(Clone, Copy, Debug, PartialEq, Eq)]
 pub enum Scale {
+    /// Whole units.
     One,
+    /// Tenths.
     Ten,
+    /// Hundredths.
     Hundred,
+    /// Thousandths.
     Thousand,
 }
 
@@ -36,8 +40,9 @@ pub fn floor_root(n: u128) -> u64
     n.isqrt() as u64
 }
 
-/// The length between two places at the scale, floored: the greatest whole number of scaled units that fits into the
-/// distance. `dx` and `dy` are the differences of the coordinates in ten-thousandths.
+/// The length between two places in scaled units, floored: the greatest whole number of them that fits into the straight
+/// line. `dx` and `dy` are the differences of the coordinates in ten-thousandths. Floored lengths may break the triangle
+/// inequality.
 pub fn scaled_length(dx: i64, dy: i64, scale: Scale) -> u64
     requires x_in_range { unsigned_abs dx ≤ 2000000000 }
     requires y_in_range { unsigned_abs dy ≤ 2000000000 }

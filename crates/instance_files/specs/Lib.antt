@@ -1,0 +1,13 @@
+pub mod Lines
+pub mod NextField
+pub mod Values
+pub mod Rows
+pub mod Op
+pub mod Top
+pub mod Toptw
+pub mod File
+pub mod Laws
+pub mod Scan
+pub mod Kept
+pub mod Ahead
+pub mod Finds
