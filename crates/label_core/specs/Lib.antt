@@ -1,0 +1,9 @@
+pub mod Resource
+pub mod Clock
+pub mod ClockLaws
+pub mod Pair
+pub mod PairLaws
+pub mod Worth
+pub mod WorthLaws
+pub mod Critical
+pub mod CriticalLaws

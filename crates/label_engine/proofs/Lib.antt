@@ -1,0 +1,15 @@
+pub mod Covering
+pub mod Fronts
+pub mod Kept
+pub mod Layers
+pub mod Rivals
+pub mod Buckets
+pub mod Steps
+pub mod Counting
+pub mod CutSteps
+pub mod CutFronts
+pub mod CutWalks
+pub mod CutStates
+pub mod Sigma
+pub mod CutLimits
+pub mod Best

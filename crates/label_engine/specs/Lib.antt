@@ -1,0 +1,9 @@
+pub mod Front
+pub mod Settled
+pub mod Known
+pub mod Offer
+pub mod Rivals
+pub mod Layer
+pub mod Cut
+pub mod Example
+pub mod Greatest

@@ -1,0 +1,122 @@
+ghost use Rattle.std.specs.Prelude.{◌≡◌, ◌<◌, ◌≤◌, All, ℤ, ◌-ℤ◌, FitsSigned, unsigned_abs, is_some, true, length, IfOk, OnOk};
+ghost use Rattle.std.specs.Int.{w128};
+ghost use Rattle.label_core.specs.Clock.{clock_after};
+ghost use Rattle.label_engine.specs.Cut.{IsCut, cut_rules, cut_moves, relaxed};
+ghost use Rattle.label_engine.specs.Greatest.{sigma_of, HasWalk, is_open_tour, IsAtCall, value_of, IsBest, better};
+ghost use Rattle.label_engine.specs.Settled.{IsSettled};
+ghost use Rattle.orienteering.specs.Duality.{BoundsTours};
+ghost use Rattle.orienteering.specs.Instance.{calls, end_place, next_clock, IsCall};
+ghost use Rattle.orienteering.specs.Price.{IsFit};
+ghost use Rattle.orienteering.specs.Region.{IsProper, is_forced};
+ghost use Rattle.orienteering.specs.Replay.{is_critical_set, relaxation};
+ghost use Rattle.orienteering.specs.Sigma.{sigma, undominated};
+
+use crate::cut_moves::{CutMoves, CutState};
+use crate::label::{Label, ReplayFail};
+use crate::priced_moves::PricedMoves;
+use crate::search::settle;
+use crate::walk::front_of;
+use orienteering::{Price, Tour};
+use region_ctx::Context;
+use site_model::Instance;
+use std::alloc::{AllocError, Global};
+
+/// The greatest value of a relaxed walk.
+#[derive(Drop)]
+pub enum Outcome {
+    /// There is no relaxed walk.
+    NoWalk,
+    /// The greatest value, and a relaxed walk that has it; which one is left free.
+    Best { sigma: i128, walk: Tour },
+}
+
+/// The place of a label that can go to the end, and the value of its walk.
+#[derive(Clone, Copy, Debug, PartialEq, Eq)]
+struct Closed {
+    place: usize,
+    value: i128,
+}
+
+/// The better of the best label so far and the label at a place, whose value is given where it can go to the end.
+fn better(best: Option<Closed>, place: usize, value: Option<i128>) -> Option<Closed>
+    ensures { result ≡ better best place value }
+{
+    match value {
+        None => best,
+        Some(value) => match best {
+            None => Some(Closed { place, value }),
+            Some(best) => {
+                if value <= best.value {
+                    Some(best)
+                } else {
+                    Some(Closed { place, value })
+                }
+            }
+        },
+    }
+}
+
+/// The best of the labels that can go to the end.
+fn best_closed(cut: &CutMoves, labels: &[Label<CutState>]) -> Option<Closed>
+    requires { All (IsAtCall cut.now) labels.now }
+    ensures { IsBest cut.now labels.now result }
+{
+    let mut best = None;
+    for place in 0..labels.len() {
+        best = better(best, place, cut.closed_value(&labels[place]));
+    }
+    best
+}
+
+/// The outcome that the settled labels give.
+fn answer(
+    alloc: Global,
+    moves: &PricedMoves,
+    labels: &[Label<CutState>],
+) -> Result<Outcome, AllocError>
+    requires cut { IsCut moves.now }
+    requires settled { IsSettled cut_rules (cut_moves moves.now.problem (relaxed moves.now)) (calls moves.now.problem) labels.now }
+    ensures sigma { IfOk result (λ outcome. sigma_of outcome ≡ sigma moves.now.problem (relaxed moves.now)) }
+    ensures walk { IfOk result (HasWalk moves.now.problem (relaxed moves.now)) }
+{
+    match best_closed(moves.cut(), labels) {
+        None => Ok(Outcome::NoWalk),
+        Some(best) => {
+            let walk = front_of(alloc, moves, labels, best.place)?;
+            Ok(Outcome::Best {
+                sigma: best.value,
+                walk: Tour::from_calls(walk),
+            })
+        }
+    }
+}
+
+/// The greatest value of a relaxed walk of the region under the price, in which no critical call stands twice
+/// (Righini and Salani 2009). `TooManyLabels` comes exactly where more than `limit` states of fronts are covered by no
+/// different one, whether or not there is a relaxed walk, and `Memory` is want of memory.
+pub fn greatest(
+    alloc: Global,
+    inst: &Instance,
+    ctx: &Context,
+    price: &Price,
+    critical: &[u32],
+    limit: u64,
+) -> Result<Outcome, ReplayFail>
+    requires proper { IsProper inst.now ctx.now }
+    requires fit { IsFit (calls inst.now) (is_forced ctx.now) price.now }
+    requires critical { is_critical_set (calls inst.now) critical.now ≡ true }
+
+    // The value is sigma, a walk that is answered has it, and no feasible tour without a shut arc is worth more.
+    ensures sigma { IfOk result (λ outcome. sigma_of outcome ≡ sigma inst.now (relaxation ctx.now price.now critical.now)) }
+    ensures walk { IfOk result (HasWalk inst.now (relaxation ctx.now price.now critical.now)) }
+    ensures tours { IfOk result (λ outcome. BoundsTours inst.now price.now (is_open_tour inst.now ctx.now) (sigma_of outcome)) }
+
+    // The states are too many exactly where it says so.
+    ensures few { OnOk result (length (undominated inst.now (relaxation ctx.now price.now critical.now)) ≤ limit) }
+    ensures many { result ≡ Err ReplayFail.TooManyLabels → limit < length (undominated inst.now (relaxation ctx.now price.now critical.now)) }
+{
+    let cut = CutMoves::new(alloc, inst, ctx, price, critical);
+    let moves = PricedMoves::of(alloc, cut)?;
+    let settled = settle(alloc, &moves, inst.calls(), limit)?;
+    Ok(answer(alloc, &moves, settled.labels())?)
+}
