@@ -185,9 +185,11 @@ module _ (words : List ℕ) (place word : ℕ) (within : place < length words) (
 
   pub left_members-first : left_members words place word ≡ (64 * place + bit) ∷ left_members words place rest
   left_members-first =
-      same_members 0 _ _ (rises-left_all words place word)
-      (omega arith, rises_from 0 (64 * place + bit + 1) (left_members words place rest) (rises-left_all words place rest)
-      (λ x has. let above = (kept x (is_left words place rest x has)).1 in omega (arith, above)))
+      same_members 0 _ _ (rises-left_all words place word) (
+        omega arith,
+        rises_from 0 (64 * place + bit + 1) (left_members words place rest) (rises-left_all words place rest)
+            (λ x has. let above = (kept x (is_left words place rest x has)).1 in omega (arith, above)),
+      )
       (λ x has.
       elim (first_or_kept x (is_left words place word x has)) [
         | inl first ↦ or_left _ _ (eq-eqb x (64 * place + bit) first)

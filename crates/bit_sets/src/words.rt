@@ -94,7 +94,11 @@ pub(crate) fn unite(words: &mut [u64], others: &[u64])
 }
 
 /// Words with the bits of both, of which the first has as many words at least.
-pub(crate) fn joined(alloc: Global, long: &[u64], short: &[u64]) -> Result<SmallVec<u64, 5>, AllocError>
+pub(crate) fn joined(
+    alloc: Global,
+    long: &[u64],
+    short: &[u64],
+) -> Result<SmallVec<u64, 5>, AllocError>
     requires { length short.now ≤ length long.now }
     ensures both { IfOk result (λ v. (y : ℕ) → has_bit v.items y ≡ (has_bit long.now y || has_bit short.now y)) }
     ensures len { IfOk result (λ v. length v.items ≡ length long.now) }

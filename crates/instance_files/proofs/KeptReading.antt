@@ -66,8 +66,16 @@ plain-place limit is_end ks fs e = rw (not_so_few (length ks) 3 (omega (arith, e
 windowed-place : (scale : ℕ) (is_start : Bool) (ks fs : List (List ℕ)) → AreEnds ks fs → windowed_place scale is_start ks ≡ windowed_place scale is_start fs
 unfolding windowed_place
 windowed-place scale is_start ks fs e =
-    rw (lt-leb (suc (length ks)) 7 (omega (arith, e.seven)), lt-leb (suc (length fs)) 7 (omega (arith, e.many)), e.before_last, e.last,
-        e.front 1 (omega arith), e.front 2 (omega arith), e.front 3 (omega arith), e.front 4 (omega arith)) refl
+    rw (
+      lt-leb (suc (length ks)) 7 (omega (arith, e.seven)),
+      lt-leb (suc (length fs)) 7 (omega (arith, e.many)),
+      e.before_last,
+      e.last,
+      e.front 1 (omega arith),
+      e.front 2 (omega arith),
+      e.front 3 (omega arith),
+      e.front 4 (omega arith),
+    ) refl
 
 op-row : (limit n : ℕ) (ks fs : List (List ℕ)) → AreEnds ks fs → op_row limit n ks ≡ op_row limit n fs
 unfolding op_row

@@ -49,7 +49,7 @@ ends-instance scale team start end calls setting first last each few window =
       both_ends = omega (arith, count);
       few_calls = omega (arith, count);
       places = All-cons IsPlaceWithinLimits start (calls ++ end ∷ []) first.limits
-        (All-append IsPlaceWithinLimits calls (end ∷ []) each (All-cons IsPlaceWithinLimits end [] last.limits (λ k d lt. absurd (omega arith))));
+          (All-append IsPlaceWithinLimits calls (end ∷ []) each (All-cons IsPlaceWithinLimits end [] last.limits (λ k d lt. absurd (omega arith))));
       start = first.bare refl;
       end = subst IsBare (sym at_end) (last.bare refl);
       window = subst (λ (e : Place). start.opening ≤ e.closing) (sym at_end) window;

@@ -9,7 +9,7 @@ ghost use Rattle.instance_files.specs.Op.{row_score, plain_place, op_row, op_hea
 
 use crate::fields::Fields;
 use crate::lines::Lines;
-use crate::table::{FileFail, RowReader, at_line, head_row, add, read_places, tours};
+use crate::table::{FileFail, RowReader, add, at_line, head_row, read_places, tours};
 use crate::values::{FileCause, read_coordinate, read_score, read_value};
 use fixed_num::Scale;
 use orienteering::Place;

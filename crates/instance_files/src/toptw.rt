@@ -10,7 +10,7 @@ ghost use Rattle.instance_files.specs.Toptw.{toptw_head, row_service, time_of, w
 use crate::fields::Fields;
 use crate::lines::Lines;
 use crate::op::row_score;
-use crate::table::{FileFail, RowReader, at_line, head_row, add, read_places, tours};
+use crate::table::{FileFail, RowReader, add, at_line, head_row, read_places, tours};
 use crate::values::{FileCause, read_coordinate, read_number, read_value, scaled_value};
 use fixed_num::Scale;
 use orienteering::Place;

@@ -260,7 +260,7 @@ module _ {R S : Type 0} (rules : Rules R S) (moves : MoveRules R S) where
     next_whole hops start old labels to some whole last next past =
         let growing = next.growing in (
           whole_next rules moves laws fitting hops old labels whole growing (begins_covered hops old labels some whole growing)
-          (λ from call held is is_call. tried_from hops start old labels to last next from call held is is_call.low (omega (arith, is_call.high))),
+              (λ from call held is is_call. tried_from hops start old labels to last next from call held is is_call.low (omega (arith, is_call.high))),
           record {
             before = All-same (λ l. l.hops < hops + 1) (take (length old) labels) old (ap (take (length old)) growing.joined ∙ take_at old growing.layer (length old) refl)
                 (All-weaker (IsReached rules moves hops) (λ l. l.hops < hops + 1) (λ l r. omega (arith, r.few)) old whole.reached);

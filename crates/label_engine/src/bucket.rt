@@ -19,7 +19,12 @@ pub(crate) struct KnownStep<S> {
     step: Option<S>,
 }
 
-fn know_step<R: Resource, M: Moves<R>>(moves: &M, known: &mut KnownStep<R::Step>, from: u32, to: u32)
+fn know_step<R: Resource, M: Moves<R>>(
+    moves: &M,
+    known: &mut KnownStep<R::Step>,
+    from: u32,
+    to: u32,
+)
     requires from { IsCallOf (M.moves moves.now) from }
     requires to { IsCallOf (M.moves moves.now) to }
     requires known { Knows (M.moves moves.now) to known.old }

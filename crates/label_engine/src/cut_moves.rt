@@ -39,7 +39,6 @@ pub struct CutMoves<'a> {
 
 impl<'a> Model for CutMoves<'a> {
     ghost use Rattle.label_engine.specs.Cut.{Cut, cut, IsCut};
-
     ghost use Rattle.std.specs.Coded.{codes};
     ghost use Rattle.orienteering.specs.Region.{region_code};
 

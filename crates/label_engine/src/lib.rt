@@ -17,7 +17,7 @@ mod walk;
 
 pub use cut::{settled_labels_give_sigma, uncovered_states_are_undominated};
 pub use cut_moves::{CutMoves, CutState, CutStep};
-pub use replay::{Outcome, greatest};
 pub use label::{Label, ReplayFail, Settled};
 pub use moves::Moves;
+pub use replay::{Outcome, greatest};
 pub use search::settle;

@@ -37,7 +37,16 @@ pub fn settle<R: Resource, M: Moves<R>>(
         if start == end {
             return Ok(Settled::of(labels));
         }
-        next_layer(moves, calls, start, length, limit, &mut labels, &mut rivals, &mut bucket)?;
+        next_layer(
+            moves,
+            calls,
+            start,
+            length,
+            limit,
+            &mut labels,
+            &mut rivals,
+            &mut bucket,
+        )?;
         start = end;
     }
     Ok(Settled::of(labels))

@@ -47,7 +47,6 @@ module _ (n : ℕ) (next previous : List ℕ) (i j : ℕ) where
       ∙ and_from (nat_le 1 j) (nat_eq (slice_index next i) j) (le-leb 1 j c.low) (eq-eqb (slice_index next i) j c.after)
 
 module _ (n : ℕ) (next previous : List ℕ) (are : AreLinks n next previous) where
-
   says : (i j : ℕ) → finite.contains (links n next previous) (arc i j) ≡ true → (FromStart n previous i j ⊎ FromCall next i j) × (i ≤ n + 1) × (j ≤ n + 1)
   says i j h =
       let held = where_held n (is_link n next previous) (arc i j) h in

@@ -72,13 +72,13 @@ module _ (p : Problem) (r : Region) (used banned : ArcSet)
       (not_from_false (is_used part i j) (false_from_ne_true (is_used part i j) unused))
       (elim (or_cases (is_banned r i j || (is_call r.calls i && is_left r i)) (is_call r.calls j && is_entered r j) parts.1) [
         | inl h ↦ or_left (is_banned part i j || (is_call r.calls i && is_left part i)) (is_call r.calls j && is_entered part j)
-        (elim (or_cases (is_banned r i j) (is_call r.calls i && is_left r i) h) [
-          | inl b ↦ or_left (is_banned part i j) (is_call r.calls i && is_left part i) (banned_stay i j b)
-          | inr l ↦
-              let both = and_parts (is_call r.calls i) (is_left r i) l in
-              or_right (is_banned part i j) (is_call r.calls i && is_left part i)
-              (and_from (is_call r.calls i) (is_left part i) both.0 (any_more (is_used r i) (is_used part i) (targets r.calls) (λ k. used_stay i k) both.1))
-        ])
+            (elim (or_cases (is_banned r i j) (is_call r.calls i && is_left r i) h) [
+              | inl b ↦ or_left (is_banned part i j) (is_call r.calls i && is_left part i) (banned_stay i j b)
+              | inr l ↦
+                  let both = and_parts (is_call r.calls i) (is_left r i) l in
+                  or_right (is_banned part i j) (is_call r.calls i && is_left part i)
+                  (and_from (is_call r.calls i) (is_left part i) both.0 (any_more (is_used r i) (is_used part i) (targets r.calls) (λ k. used_stay i k) both.1))
+            ])
         | inr e ↦
             let both = and_parts (is_call r.calls j) (is_entered r j) e in
             or_right (is_banned part i j || (is_call r.calls i && is_left part i)) (is_call r.calls j && is_entered part j)
@@ -92,14 +92,14 @@ module _ (p : Problem) (r : Region) (used banned : ArcSet)
       elim (cases_Bool (is_used part i j)) [
         | inl u ↦ elim (were_open i j u) [
           | inl old ↦ and_from (is_arc r.calls i j) (not (is_shut r i j)) parts.0
-          (not_from_false (is_shut r i j) (false_from_ne_true (is_shut r i j) (λ shut.
-          let unused = and_parts (not (is_used r i j)) (is_banned r i j || (is_call r.calls i && is_left r i) || (is_call r.calls j && is_entered r j)) shut in
-          true≢false (sym old ∙ not-true (is_used r i j) unused.0))))
+              (not_from_false (is_shut r i j) (false_from_ne_true (is_shut r i j) (λ shut.
+              let unused = and_parts (not (is_used r i j)) (is_banned r i j || (is_call r.calls i && is_left r i) || (is_call r.calls j && is_entered r j)) shut in
+              true≢false (sym old ∙ not-true (is_used r i j) unused.0))))
           | inr open_before ↦ open_before
         ]
         | inr off ↦ and_from (is_arc r.calls i j) (not (is_shut r i j)) parts.0
-        (not_from_false (is_shut r i j) (false_from_ne_true (is_shut r i j) (λ shut.
-        true≢false (sym (shut_stays i j (λ on. true≢false (sym on ∙ off)) shut) ∙ not-true (is_shut part i j) parts.1))))
+            (not_from_false (is_shut r i j) (false_from_ne_true (is_shut r i j) (λ shut.
+            true≢false (sym (shut_stays i j (λ on. true≢false (sym on ∙ off)) shut) ∙ not-true (is_shut part i j) parts.1))))
       ]
 
   less_score : open_score p part ≤ open_score p r
@@ -171,11 +171,11 @@ children_are_within p r (Count c) m =
     )
 children_are_within p r (Arc i j) m = (
   part_is_within p r (set.insert r.used (arc i j)) r.banned (λ k l. kept r.used (arc i j) (arc k l)) (λ k l h. h)
-  (λ k l h. elim (new_or_kept r.used (arc i j) (arc k l) h) [
-    | inl e ↦
-        let was_open = and_parts (is_open r i j) (not (is_used r i j)) m in
-        inr (subst (λ a. is_open r a.from a.to ≡ true) (sym e) was_open.0)
-    | inr old ↦ inl old
-  ]),
+      (λ k l h. elim (new_or_kept r.used (arc i j) (arc k l) h) [
+        | inl e ↦
+            let was_open = and_parts (is_open r i j) (not (is_used r i j)) m in
+            inr (subst (λ a. is_open r a.from a.to ≡ true) (sym e) was_open.0)
+        | inr old ↦ inl old
+      ]),
   part_is_within p r r.used (set.insert r.banned (arc i j)) (λ k l h. h) (λ k l. kept r.banned (arc i j) (arc k l)) (λ k l h. inl h),
 )
