@@ -1,0 +1,5 @@
+pub mod Leaves
+pub mod Waiting
+pub mod Nested
+pub mod Judged
+pub mod Verdict
