@@ -1,0 +1,5 @@
+pub mod Pieces
+pub mod Steps
+pub mod Checks
+pub mod Once
+pub mod Told

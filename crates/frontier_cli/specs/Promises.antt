@@ -1,0 +1,109 @@
+-- What a user may rely on, one fact at a time.
+use Rattle.std.specs.Prelude.{◌≡◌, ◌⊎◌, ℕ, Bool, List, Option, Some, None, Ok, IfSome, IsSomeAnd, option_map}
+use Rattle.edge_core.specs.Faults.{Rose}
+use Rattle.edge_core.specs.Store.{Files, StoreState, file}
+use Rattle.edge_core.specs.Sink.{SinkState, Gains, GainsFront}
+use Rattle.orienteering.specs.Instance.{Problem}
+use Rattle.frontier_cli.specs.Asked.{Asked, Check}
+use Rattle.command_line.specs.declared.settings.Settings.{Settings}
+use Rattle.frontier_cli.specs.Outcome.{Outcome, status_of, cause_status, report_status, line_of}
+use Rattle.frontier_cli.specs.Files.{instance_in}
+use Rattle.frontier_cli.specs.Expected.{Expectation, Missing, RefusedBy, Accepted, ComesTo}
+use Rattle.frontier_cli.specs.Answers.{Answers, IsCertifiedReport}
+use Rattle.frontier_cli.specs.Ran.{Names, PutFailed}
+
+-- a text was printed
+abbrev pub IsPrinted : ℕ → Type 0
+IsPrinted status = (status ≡ 0) ⊎ (status ≡ 3)
+
+-- the status of a refusal by the files
+abbrev pub IsOfCause : ℕ → Type 0
+IsOfCause status = (status ≡ 1) ⊎ (status ≡ 4) ⊎ (status ≡ 8) ⊎ (status ≡ 9)
+
+-- the files of accepted words come to something of which this holds, where the store tells them
+abbrev pub Comes : Option Asked → Option Files → (Expectation → Type 0) → Type 0
+Comes request files P =
+    IfSome files (λ files. IsSomeAnd request (λ asked. (e : Expectation) × ComesTo files asked e × P e))
+
+-- a refusal with this status
+abbrev pub IsRefusedWith : ℕ → Expectation → Type 0
+IsRefusedWith status (RefusedBy cause) = status ≡ cause_status cause
+IsRefusedWith status Missing = ⊥
+IsRefusedWith status Accepted = ⊥
+
+-- a read of a named file failed in this run
+abbrev pub ReadFailed : Option Asked → StoreState → StoreState → Type 0
+ReadFailed request old new = IsSomeAnd request (λ asked. Names asked new.failed) × Rose old.get_faults new.get_faults
+
+-- a put failed in this run, or the write of what was to be printed did
+abbrev pub WriteFailed : Option Asked → StoreState → StoreState → SinkState → SinkState → Type 0
+WriteFailed request store store' out out' =
+    IsSomeAnd request (λ asked. PutFailed asked store store') ⊎ Rose out.faults out'.faults
+
+-- what kept a run from the status of its files: want of memory, or a fault
+abbrev pub KeptFrom : Option Asked → StoreState → StoreState → SinkState → SinkState → ℕ → Type 0
+KeptFrom request store store' out out' status =
+    (status ≡ 7) ⊎ ((status ≡ 5) × ReadFailed request store store') ⊎ ((status ≡ 6) × WriteFailed request store store' out out')
+
+-- a status to which these files lead
+abbrev pub LeadsTo : Expectation → ℕ → Type 0
+LeadsTo Missing status = ⊥
+LeadsTo (RefusedBy cause) status = status ≡ cause_status cause
+LeadsTo Accepted status = IsPrinted status
+
+-- where the store tells its files and the words are accepted, the run ends as the files say, or was kept from it
+abbrev pub EndsSo : Option Asked → StoreState → StoreState → SinkState → SinkState → ℕ → Type 0
+EndsSo request store store' out out' status =
+    IfSome store.files (λ files. IfSome request (λ asked. (e : Expectation) → ComesTo files asked e →
+    LeadsTo e status ⊎ KeptFrom request store store' out out' status))
+
+-- what was printed answers the request by the files before and after, and has a box exactly with status 3
+pub record Certified (request : Option Asked) (before after : Files) (out out' : SinkState) (status : ℕ) : Type 0 where
+  pub asked : Asked
+  pub asked_is : request ≡ Some asked
+  pub text : List ℕ
+  pub has_box : Bool
+  pub answers : Answers asked before after text has_box
+  pub printed : Gains text out.bytes out'.bytes
+  pub boxes : status ≡ report_status has_box
+
+-- the request reports a frontier of the instance in this file
+abbrev pub IsReported : Asked → List ℕ → Settings → Type 0
+IsReported (Check r) name settings = (name ≡ r.instance) × (settings ≡ r.settings)
+
+-- The headline. What was printed are points with plans, and boxes: each plan is feasible and reaches its point, no listed
+-- point weakly dominates another, and every feasible plan of the instance is weakly dominated by a listed point or lies in
+-- a listed box. With status 0 there is no box, and the points are exactly the nondominated ones, by rising profit.
+pub record IsHeadline (request : Option Asked) (before : Files) (out out' : SinkState) (status : ℕ) : Type 0 where
+  pub asked : Asked
+  pub asked_is : request ≡ Some asked
+  pub name : List ℕ
+  pub settings : Settings
+  pub reported : IsReported asked name settings
+  pub problem : Problem
+  pub instance_is : option_map (instance_in settings) (file before name) ≡ Some (Ok problem)
+  pub text : List ℕ
+  pub has_box : Bool
+  pub printed : Gains text out.bytes out'.bytes
+  pub report : IsCertifiedReport settings problem text has_box
+  pub boxes : status ≡ report_status has_box
+
+-- which files stay
+abbrev pub FilesStay : Option Asked → ℕ → Option Files → Option Files → Type 0
+FilesStay None status old new = new ≡ old
+FilesStay (Some (Check r)) status old new = new ≡ old
+
+-- nothing was printed, or the front of a text where the sink failed
+abbrev pub PrintedFront : SinkState → SinkState → Type 0
+PrintedFront out out' =
+    (out'.bytes ≡ out.bytes) ⊎ (Rose out.faults out'.faults × ((text : List ℕ) × GainsFront text out.bytes out'.bytes))
+
+-- the error stream got the line of an outcome with this status, or the front of it where the sink failed
+abbrev pub TellsLine : SinkState → SinkState → ℕ → Type 0
+TellsLine err err' status =
+    (outcome : Outcome) × (status ≡ status_of outcome)
+    × (Gains (line_of outcome) err.bytes err'.bytes ⊎ (Rose err.faults err'.faults × GainsFront (line_of outcome) err.bytes err'.bytes))
+
+-- the error stream got the front of some line
+abbrev pub TellsFront : SinkState → SinkState → Type 0
+TellsFront err err' = (outcome : Outcome) × GainsFront (line_of outcome) err.bytes err'.bytes

@@ -1,0 +1,139 @@
+-- How a run goes, step by step: what it reads, what it comes to, what it prints and what it tells.
+use Rattle.std.specs.Prelude.{◌≡◌, ◌⊎◌, ◌≤◌, ℕ, Bool, List, Option, Some, None, Result, Ok, Err, IfSome, IsSomeAnd}
+use Rattle.edge_core.specs.Faults.{Rose}
+use Rattle.edge_core.specs.Store.{Files, StoreState, file}
+use Rattle.edge_core.specs.Sink.{SinkState, Gains, GainsFront}
+use Rattle.frontier_cli.specs.Asked.{Asked, Check}
+use Rattle.orienteering.specs.Certificate.{Certificate, Acceptance}
+use Rattle.orienteering.specs.Decide.{decide}
+use Rattle.orienteering.specs.Instance.{Problem}
+use Rattle.orienteering.specs.declared.CheckFail.{CheckFail}
+use Rattle.orienteering.specs.declared.CheckFail.TheVariants.{Memory}
+use Rattle.command_line.specs.declared.settings.Settings.{Settings}
+use Rattle.report_text.specs.Report.{report_text}
+use Rattle.frontier_cli.specs.Outcome.{Cause, CertRefused, Outcome, WordsRefused, Refused, Printed, Step, ReadFault, WriteFault, OutOfMemory, status_of, report_status, line_of}
+use Rattle.frontier_cli.specs.Expected.{RefusedBy, Accepted, ComesTo, of_verdict}
+use Rattle.frontier_cli.specs.Answers.{Answers, IsCertifiedReport, has_some}
+
+-- the bytes of the file are read as this, where the store tells
+abbrev pub FileReadsAs : {V : Type 0} → (List ℕ → Result V Cause → Type 0) → List ℕ → Option Files → Result V Cause → Type 0
+FileReadsAs Reading name files result =
+    IfSome files (λ files. IsSomeAnd (file files name) (λ bytes. Reading bytes result))
+
+-- why a step over the file of this name ended so: a value or a refusal is by the bytes of the file, a read fault is a
+-- count that rose, and want of memory is free
+abbrev pub StepCause : {V : Type 0} → (List ℕ → Result V Cause → Type 0) → List ℕ → StoreState → StoreState → Step V → Type 0
+StepCause Reading name old new (Ok value) = FileReadsAs Reading name old.files (Ok value)
+StepCause Reading name old new (Err (Refused cause)) = FileReadsAs Reading name old.files (Err cause)
+StepCause Reading name old new (Err (Printed text has_box)) = ⊥
+StepCause Reading name old new (Err (ReadFault at)) = (at ≡ name) × (new.failed ≡ name) × Rose old.get_faults new.get_faults
+StepCause Reading name old new (Err (WordsRefused text)) = ⊥
+StepCause Reading name old new (Err WriteFault) = ⊥
+StepCause Reading name old new (Err OutOfMemory) = Unit {0}
+
+-- a step that reads the file of this name
+pub record Reads {V : Type 0} (Reading : List ℕ → Result V Cause → Type 0) (name : List ℕ) (old new : StoreState) (step : Step V) : Type 0 where
+  pub files : new.files ≡ old.files
+  pub later : old.get_faults ≤ new.get_faults
+  pub put_faults : new.put_faults ≡ old.put_faults
+  pub cause : StepCause Reading name old new step
+
+-- a step that only looks at bytes: its value or refusal is one of these; want of memory is free
+abbrev pub LooksAt : {V : Type 0} → (Result V Cause → Type 0) → Step V → Type 0
+LooksAt Is (Ok value) = Is (Ok value)
+LooksAt Is (Err (Refused cause)) = Is (Err cause)
+LooksAt Is (Err OutOfMemory) = Unit {0}
+LooksAt Is (Err outcome) = ⊥
+
+-- the report of what is accepted; want of memory is free
+abbrev pub ReportsAll : Settings → Acceptance → Outcome → Type 0
+ReportsAll s a (Printed text has_box) = (text ≡ report_text s.style a.points a.boxes) × (has_box ≡ has_some a.boxes)
+ReportsAll s a OutOfMemory = Unit {0}
+ReportsAll s a outcome = ⊥
+
+-- the report of an accepted certificate
+pub record PrintsVerdict (s : Settings) (p : Problem) (c : Certificate) (text : List ℕ) (has_box : Bool) : Type 0 where
+  pub accepted : Acceptance
+  pub verdict : decide p s.labels c ≡ Ok accepted
+  pub printed : text ≡ report_text s.style accepted.points accepted.boxes
+  pub left : has_box ≡ has_some accepted.boxes
+  pub certified : IsCertifiedReport s p text has_box
+
+-- what the verdict on a certificate comes to; want of memory is free
+abbrev pub Judges : Settings → Problem → Certificate → Outcome → Type 0
+Judges s p c (Refused cause) = of_verdict (decide p s.labels c) ≡ RefusedBy cause
+Judges s p c (Printed text has_box) = PrintsVerdict s p c text has_box
+Judges s p c OutOfMemory = Unit {0}
+Judges s p c outcome = ⊥
+
+-- the outcome of a refused certificate
+abbrev pub refused_by : CheckFail → Outcome
+refused_by Memory = OutOfMemory
+refused_by fail = Refused (CertRefused fail)
+
+-- the request reads the file of this name
+abbrev pub Names : Asked → List ℕ → Type 0
+Names (Check r) name = (name ≡ r.instance) ⊎ (name ≡ r.certificate)
+
+-- a put of the request failed
+abbrev pub PutFailed : Asked → StoreState → StoreState → Type 0
+PutFailed (Check r) old new = ⊥
+
+-- why the work of a request came to this
+abbrev pub WorkCause : Asked → StoreState → StoreState → Outcome → Type 0
+WorkCause request old new (WordsRefused text) = ⊥
+WorkCause request old new (Refused cause) = IfSome old.files (λ files. ComesTo files request (RefusedBy cause))
+WorkCause request old new (Printed text has_box) =
+    IfSome old.files (λ files. ComesTo files request Accepted × IsSomeAnd new.files (λ after. Answers request files after text has_box))
+WorkCause request old new (ReadFault name) = Names request name × (new.failed ≡ name) × Rose old.get_faults new.get_faults
+WorkCause request old new WriteFault = PutFailed request old new
+WorkCause request old new OutOfMemory = Unit {0}
+
+-- which files the work leaves, by what it came to
+abbrev pub Leaves : Asked → Outcome → Option Files → Option Files → Type 0
+Leaves (Check r) outcome old new = new ≡ old
+
+-- the work of accepted words
+pub record Does (request : Asked) (old new : StoreState) (outcome : Outcome) : Type 0 where
+  pub files : Leaves request outcome old.files new.files
+  pub cause : WorkCause request old new outcome
+
+-- the words are refused, with some text for the user
+abbrev pub Declines : Outcome → Type 0
+Declines (WordsRefused text) = Unit {0}
+Declines outcome = ⊥
+
+-- the words are refused, since they ask for nothing; want of memory is free
+abbrev pub DeclinesWords : Option Asked → Outcome → Type 0
+DeclinesWords asked (WordsRefused text) = asked ≡ None
+DeclinesWords asked OutOfMemory = Unit {0}
+DeclinesWords asked outcome = ⊥
+
+-- the work of words that ask for this, or for nothing
+abbrev pub Works : Option Asked → StoreState → StoreState → Outcome → Type 0
+Works None old new outcome = DeclinesWords None outcome × (new ≡ old)
+Works (Some request) old new outcome = Does request old new outcome
+
+-- the error stream gets the line of this outcome
+pub data Tells (outcome : Outcome) (old new : SinkState) (status : ℕ) : Type 0 where
+  told : status ≡ status_of outcome → Gains (line_of outcome) old.bytes new.bytes → Tells outcome old new status
+  broke : status ≡ status_of outcome → Rose old.faults new.faults → GainsFront (line_of outcome) old.bytes new.bytes → Tells outcome old new status
+  no_memory : status ≡ 7 → GainsFront (line_of outcome) old.bytes new.bytes → Tells outcome old new status
+
+-- a text is printed, in one piece
+pub data Prints (text : List ℕ) (has_box : Bool) (out out' err err' : SinkState) (status : ℕ) : Type 0 where
+  printed : status ≡ report_status has_box → Gains text out.bytes out'.bytes → err' ≡ err → Prints text has_box out out' err err' status
+  print_broke : Rose out.faults out'.faults → GainsFront text out.bytes out'.bytes → Tells WriteFault err err' status → Prints text has_box out out' err err' status
+  print_no_memory : out'.bytes ≡ out.bytes → Tells OutOfMemory err err' status → Prints text has_box out out' err err' status
+
+-- a run ends: a text is printed, any other outcome is told
+abbrev pub Ends : Outcome → SinkState → SinkState → SinkState → SinkState → ℕ → Type 0
+Ends (Printed text has_box) out out' err err' status = Prints text has_box out out' err err' status
+Ends outcome out out' err err' status = (out' ≡ out) × Tells outcome err err' status
+
+-- a whole run
+pub record Ran (request : Option Asked) (store store' : StoreState) (out out' err err' : SinkState) (status : ℕ) : Type 0 where
+  -- what the work came to
+  pub outcome : Outcome
+  pub works : Works request store store' outcome
+  pub ends : Ends outcome out out' err err' status
