@@ -80,6 +80,15 @@ const VERDICTS: &[Case<'static>] = &[
     (
         TWO_CALLS,
         HEAD,
+        "nodes 3\nprofit 7\ndominated\nopen\nend\n",
+        1,
+        "",
+        "",
+        "certificate: node 2: not dominated\n",
+    ),
+    (
+        TWO_CALLS,
+        HEAD,
         "nodes 1\nstuck cycle\nend\n",
         1,
         "",
@@ -273,6 +282,23 @@ const WORDS: &[(&[&str], u8, &str)] = &[
     ),
     (
         &[
+            "check",
+            "a.op",
+            "c",
+            "--format",
+            "op",
+            "--scale",
+            "1",
+            "--labels",
+            "2",
+            "--workers",
+            "2",
+        ],
+        8,
+        "certificate: node 12: too many labels\n",
+    ),
+    (
+        &[
             "check", "a.op", "c", "--format", "op", "--scale", "1", "--labels", "1",
         ],
         8,
@@ -322,6 +348,59 @@ fn options_and_words(rt: HostRuntime) -> Result<(), Fail> {
     let mut store = store(alloc, TWO_CALLS, &joined(alloc, HEAD, CLOSED)?)?;
     for (texts, status, told) in WORDS {
         let words = words(alloc, texts)?;
+        let mut out = MemSink::new(alloc);
+        let mut err = MemSink::new(alloc);
+        let ended = run(&rt, alloc, &words, &mut store, &mut out, &mut err);
+        assert_eq!(rt; err.written(), told.as_bytes());
+        assert_eq!(rt; ended, *status);
+    }
+    Ok(())
+}
+
+#[test]
+fn calls_that_fail(rt: HostRuntime) -> Result<(), Fail> {
+    let alloc = rt.alloc();
+    let words = words(alloc, CHECK)?;
+    for (call, told) in [(1, "read fault: a.op\n"), (2, "read fault: c\n")] {
+        let mut store = store(alloc, TWO_CALLS, &joined(alloc, HEAD, OPEN)?)?;
+        store.fail_calls(&[call])?;
+        let mut out = MemSink::new(alloc);
+        let mut err = MemSink::new(alloc);
+        let ended = run(&rt, alloc, &words, &mut store, &mut out, &mut err);
+        assert_eq!(rt; ended, 5);
+        assert_eq!(rt; out.written().len(), 0);
+        assert_eq!(rt; err.written(), told.as_bytes());
+    }
+    Ok(())
+}
+
+/// Three calls with windows; the walk through the last two and the first is worth most.
+const WINDOWS: &str =
+    "0 1 4 0\n0 0\n0 0 0 0 0 0 0 0 100\n1 0 0 5 5 0 0 0 100\n2 0 0 8 1 0 0 0 0\n3 0 0 1 1 0 0 10 10\n";
+
+/// A certificate of the instance with windows, its status and its line.
+const CRITICAL: &[(&str, u8, &str)] = &[
+    (
+        "PARETO 1\ninstance 3 1 1\npoints 1\npoint 6 0 1\ntour 2 1 3\nnodes 4\nprofit 6\ndominated\ncut 1 0 0 1 1\ncutoff 1\nend\n",
+        1,
+        "certificate: node 4: not above\n",
+    ),
+    (
+        "PARETO 1\ninstance 3 1 1\npoints 1\npoint 7 0 1\ntour 3 2 3 1\nnodes 1\ndominated\nend\n",
+        0,
+        "",
+    ),
+];
+
+#[test]
+fn critical_set_in_dominance(rt: HostRuntime) -> Result<(), Fail> {
+    let alloc = rt.alloc();
+    let words = words(
+        alloc,
+        &["check", "a.op", "c", "--format", "toptw", "--scale", "1"],
+    )?;
+    for (certificate, status, told) in CRITICAL {
+        let mut store = store(alloc, WINDOWS, certificate.as_bytes())?;
         let mut out = MemSink::new(alloc);
         let mut err = MemSink::new(alloc);
         let ended = run(&rt, alloc, &words, &mut store, &mut out, &mut err);
