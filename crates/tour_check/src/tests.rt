@@ -1,7 +1,7 @@
 use crate::{plan_value, tour_value};
 use fixed_num::Scale;
 use orienteering::{Place, Plan, PlanRefusal, Point, Tour, TourRefusal};
-use site_model::{Instance, Parts, Places};
+use site_model::{Instance, Parts, PartsRefusal, Places};
 use std::alloc::Global;
 use std::test::Fail;
 
@@ -122,5 +122,26 @@ fn call_shared_by_two_tours(rt: HostRuntime) -> Result<(), Fail> {
     assert!(rt; plan_value(alloc, &inst, &Plan::from_tours(tours)) == Err(shared));
     let nothing = Point { profit: 0, time: 0 };
     assert!(rt; plan_value(alloc, &inst, &Plan::from_tours(Vec::new(alloc))) == Ok(nothing));
+    Ok(())
+}
+
+/// One place is too few for an instance, and copies equal their sources.
+#[test]
+fn small_surface(rt: HostRuntime) -> Result<(), Fail> {
+    let alloc = rt.alloc();
+    let one = Parts {
+        scale: Scale::One,
+        team: 1,
+        places: Places::from_list(Vec::from_slice(alloc, &[spot(0, 0, 0, 10)])?),
+    };
+    assert!(rt; matches!(Instance::new(alloc, one), Err(PartsRefusal::TooFew)));
+
+    let both = tour(alloc, &[1, 2])?;
+    assert!(rt; both.copy(alloc)?.calls() == [1, 2].as_slice());
+    let mut tours = Vec::new(alloc);
+    tours.push(both)?;
+    let plan = Plan::from_tours(tours).copy(alloc)?;
+    assert_eq!(rt; plan.tours().len(), 1);
+    assert!(rt; plan.tours()[0].calls() == [1, 2].as_slice());
     Ok(())
 }
