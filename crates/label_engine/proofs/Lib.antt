@@ -13,3 +13,4 @@ pub mod CutStates
 pub mod Sigma
 pub mod CutLimits
 pub mod Best
+pub mod WalkLimits

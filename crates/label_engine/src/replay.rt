@@ -1,4 +1,4 @@
-ghost use Rattle.std.specs.Prelude.{◌≡◌, ◌<◌, ◌≤◌, All, ℤ, ◌-ℤ◌, FitsSigned, unsigned_abs, is_some, true, length, IfOk, OnOk};
+ghost use Rattle.std.specs.Prelude.{◌≡◌, ◌<◌, ◌≤◌, ◌^◌, All, ℤ, ◌-ℤ◌, FitsSigned, unsigned_abs, is_some, true, length, IfOk, MatchOption, OnOk};
 ghost use Rattle.std.specs.Int.{w128};
 ghost use Rattle.label_core.specs.Clock.{clock_after};
 ghost use Rattle.label_engine.specs.Cut.{IsCut, cut_rules, cut_moves, relaxed};
@@ -110,6 +110,7 @@ pub fn greatest(
     ensures sigma { IfOk result (λ outcome. sigma_of outcome ≡ sigma inst.now (relaxation ctx.now price.now critical.now)) }
     ensures walk { IfOk result (HasWalk inst.now (relaxation ctx.now price.now critical.now)) }
     ensures tours { IfOk result (λ outcome. BoundsTours inst.now price.now (is_open_tour inst.now ctx.now) (sigma_of outcome)) }
+    ensures within { IfOk result (λ outcome. MatchOption (sigma_of outcome) (Unit {0}) (λ s. unsigned_abs s ≤ 10 ^ 24)) }
 
     // The states are too many exactly where it says so.
     ensures few { OnOk result (length (undominated inst.now (relaxation ctx.now price.now critical.now)) ≤ limit) }

@@ -40,7 +40,6 @@ fn greatest_value(
     ensures few { OnOk result (length (undominated judge.now.inst.now (relaxation spot.now.context.now price.now critical.now)) ≤ judge.now.labels) }
     ensures many { result ≡ Err ReplayFail.TooManyLabels → judge.now.labels < length (undominated judge.now.inst.now (relaxation spot.now.context.now price.now critical.now)) }
 {
-    let _calls = judge.inst.calls();
     let outcome = greatest(
         judge.alloc,
         judge.inst,

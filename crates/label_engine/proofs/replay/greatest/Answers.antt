@@ -1,9 +1,10 @@
 use Rattle.std.proofs.Common.{◌≡◌, Err, rules, sym, ap, ◌∙◌, subst}
 use Rattle.label_engine.specs.Cut.{Cut, cut, IsCut, cut_rules, cut_moves, relaxed}
-use Rattle.label_engine.specs.Greatest.{is_open_tour}
+use Rattle.label_engine.specs.Greatest.{is_open_tour, HasWalk}
 use Rattle.label_engine.specs.Settled.{HasMoreThan}
 use Rattle.label_engine.specs.declared.label.ReplayFail.TheVariants.{TooManyLabels}
 use Rattle.label_engine.proofs.Best.{too_many, few_enough}
+use Rattle.label_engine.proofs.WalkLimits.{outcome_within}
 use Rattle.label_engine.proofs.replay.greatest.Goals as goal
 use Rattle.orienteering.specs.Duality.{BoundsTours}
 use Rattle.orienteering.specs.Sigma.{sigma}
@@ -35,3 +36,10 @@ returns-clause-few c =
     (λ h. c.in_ok-settled.ensures.no_more
     (subst (λ n. HasMoreThan cut_rules (cut_moves n.problem (relaxed n)) c.args.limit c.calls.result) (sym moves_is)
     (subst (λ n. HasMoreThan cut_rules (cut_moves m.problem (relaxed m)) c.args.limit n) (sym c.calls.ensures.value) h)))
+
+pub returns-clause-within : goal.returns-clause-within
+returns-clause-within c =
+    let m : Cut = cut c.args.inst.now c.args.ctx.now c.args.price.now c.args.critical.now in
+    let moves_is : c.in_ok-moves.moves ≡ m = c.in_ok-moves.ensures ∙ c.new-cut.ensures in
+    outcome_within m.problem m.region m.price c.args.critical.now c.calls.ensures.instance c.requires.fit c.in_ok-answer.field-0
+    (subst (λ n. HasWalk n.problem (relaxed n) c.in_ok-answer.field-0) moves_is c.in_ok-answer.ensures.walk)
