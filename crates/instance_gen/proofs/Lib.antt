@@ -1,0 +1,4 @@
+pub mod Draws
+pub mod Numerals
+pub mod Cut
+pub mod OpFiles

@@ -1,0 +1,12 @@
+-- The law of generated files.
+use Rattle.std.specs.Prelude.{◌≡◌, ℕ, ◌≤◌, Ok, None}
+use Rattle.orienteering.specs.Instance.{Problem}
+use Rattle.instance_files.specs.File.{file_problem}
+use Rattle.instance_files.specs.declared.file.Format.TheVariants.{Op}
+use Rattle.instance_gen.specs.Generated.{generated}
+
+-- each generated OP file is read at each scale, and is never refused
+abbrev pub OpFilesAreRead : Type 0
+OpFilesAreRead =
+    (scale seed calls : ℕ) → scale ≤ 1000 → calls ≤ 300 →
+    (p : Problem) × (file_problem Op scale None (generated seed calls Op) ≡ Ok p)
