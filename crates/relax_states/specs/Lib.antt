@@ -1,0 +1,4 @@
+pub mod Repeats
+pub mod CriticalSet
+pub mod Elementary
+pub mod Growing
