@@ -1,0 +1,13 @@
+pub mod Ranks
+pub mod Order
+pub mod Ranges
+pub mod Walks
+pub mod WithCall
+pub mod Growth
+pub mod Ordered
+pub mod Chosen
+pub mod Finish
+pub mod Refused
+pub mod Moved
+pub mod PlanCalls
+pub mod TourLists

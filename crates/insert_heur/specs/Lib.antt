@@ -1,0 +1,5 @@
+pub mod Places
+pub mod Walk
+pub mod Candidates
+pub mod Insertion
+pub mod Improvement
