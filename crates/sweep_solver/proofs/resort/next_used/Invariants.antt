@@ -1,0 +1,6 @@
+use Rattle.std.proofs.Common.{◌≡◌, ℕ, ◌<◌, ◌≤◌, false}
+use Rattle.orienteering.specs.Region.{is_used}
+use Rattle.sweep_solver.proofs.resort.next_used.Given as goal
+
+abbrev pub invariant-loop-to : goal.invariant-loop-to
+invariant-loop-to l = (k : ℕ) → 1 ≤ k → k < l.to → is_used l.ctx l.from k ≡ false

@@ -1,0 +1,5 @@
+pub mod UsedTours
+pub mod Rules
+pub mod Narrowing
+pub mod Weights
+pub mod Solved

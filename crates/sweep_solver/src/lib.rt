@@ -1,0 +1,23 @@
+//! The solver: it makes a certificate that the checker accepts.
+//!
+//! Stands on `growth`, which grows a tree at its open nodes whatever a strategy proposes. Here are the regions of an
+//! instance as that asks for them, over `region_ctx`, with the replay of a cut by `label_engine`; a way to go on with any
+//! region; and a strategy, on which no proof leans. `solve` begins with one open node and the starting plans of `insert_heur`.
+//! Its contract says that the verdict of the checker on the answer is a yes; that no node is open without a budget, and with
+//! one only where it is spent, with at most one node more; that a box is left only where the budget is spent; and that each
+//! starting plan is weakly dominated by a listed point.
+#![tactic(auto)]
+
+mod aim;
+mod cut;
+mod options;
+mod regions;
+mod replay;
+mod resort;
+mod search;
+mod strategy;
+#[cfg(test)]
+mod tests;
+mod world;
+
+pub use options::{Options, solve};
