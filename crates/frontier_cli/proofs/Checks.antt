@@ -1,6 +1,5 @@
 -- What the steps of a check come to.
 use Rattle.std.proofs.Common.{◌≡◌, ℕ, ◌≤◌, Bool, false, List, [], ◌∷◌, Option, Some, None, Result, Ok, Err, IfSome, IsSomeAnd, refl, sym, ap, subst, ◌∙◌, arith, inl, inr}
-use Rattle.std.specs.Prelude.{option_map}
 use Rattle.edge_core.specs.Faults.{Rose}
 use Rattle.edge_core.specs.Store.{Files, StoreState, file}
 use Rattle.orienteering.specs.Instance.{Problem}
@@ -12,12 +11,13 @@ use Rattle.orienteering.specs.declared.CheckFail.{CheckFail}
 use Rattle.orienteering.specs.declared.CheckFail.TheVariants.{OtherInstance, PointRefused, NotRising, NodeRefused, TooManyLabels, Shape, Memory}
 use Rattle.command_line.specs.Requests.{CheckRequest}
 use Rattle.command_line.specs.declared.settings.Settings.{Settings}
-use Rattle.frontier_cli.specs.Asked.{Asked, Check}
+use Rattle.command_line.specs.Requests.{Check}
 use Rattle.frontier_cli.specs.Outcome.{Cause, CertRefused, Outcome, WordsRefused, Refused, Printed, ReadFault, WriteFault, OutOfMemory}
-use Rattle.frontier_cli.specs.Files.{instance_in, IsReadAs}
+use Rattle.frontier_cli.specs.Files.{IsReadAs}
 use Rattle.frontier_cli.specs.Expected.{RefusedBy, Accepted, of_verdict, of_certificate, CertificateComesTo, CheckReadComesTo, CheckComesTo, ComesTo}
 use Rattle.frontier_cli.specs.Answers.{Answers, has_some, IsCertifiedReport}
-use Rattle.frontier_cli.specs.Ran.{FileReadsAs, Reads, DeclinesWords, Works, Does, Judges, PrintsVerdict, ReportsAll, refused_by}
+use Rattle.frontier_cli.proofs.Instances.{IsInstance, instance_found}
+use Rattle.frontier_cli.specs.Ran.{FileReadsAs, Reads, Does, Judges, PrintsVerdict, ReportsAll, refused_by}
 
 -- ---- the verdict
 
@@ -68,11 +68,8 @@ judged_refusal s p c Memory is = tt
 
 -- ---- the files
 
-abbrev IsInstance : CheckRequest → List ℕ → Result Problem Cause → Type 0
-IsInstance r bytes read = read ≡ instance_in r.settings bytes
-
 module _ (r : CheckRequest) where
-  instance_refused : (found certificate : Option (List ℕ)) (cause : Cause) → IsSomeAnd found (λ b. IsInstance r b (Err cause)) →
+  instance_refused : (found certificate : Option (List ℕ)) (cause : Cause) → IsSomeAnd found (λ b. IsInstance r.settings b (Err cause)) →
       CheckComesTo r.settings found certificate (RefusedBy cause)
   instance_refused None certificate cause is = absurd is
   instance_refused (Some bytes) certificate cause is =
@@ -84,29 +81,24 @@ module _ (r : CheckRequest) where
   certificate_read p (Some bytes) read is = (read, is, refl)
 
   both_read : (p : Problem) (found certificate : Option (List ℕ)) (read : Result Certificate Cause) →
-      IsSomeAnd found (λ b. IsInstance r b (Ok p)) → IsSomeAnd certificate (λ b. IsReadAs b read) →
+      IsSomeAnd found (λ b. IsInstance r.settings b (Ok p)) → IsSomeAnd certificate (λ b. IsReadAs b read) →
       CheckComesTo r.settings found certificate (of_certificate r.settings p read)
   both_read p None certificate read is cert = absurd is
   both_read p (Some bytes) certificate read is cert =
       subst (λ got. CheckReadComesTo r.settings got certificate (of_certificate r.settings p read)) is
       (certificate_read p certificate read cert)
 
-  comes_refused : (files : Option Files) (cause : Cause) → FileReadsAs (IsInstance r) r.instance files (Err cause) →
+  comes_refused : (files : Option Files) (cause : Cause) → FileReadsAs (IsInstance r.settings) r.instance files (Err cause) →
       IfSome files (λ f. ComesTo f (Check r) (RefusedBy cause))
   comes_refused None cause is = tt
   comes_refused (Some f) cause is = instance_refused (file f r.instance) (file f r.certificate) cause is
 
-  comes_on : (files : Option Files) (p : Problem) (read : Result Certificate Cause) → FileReadsAs (IsInstance r) r.instance files (Ok p) →
+  comes_on : (files : Option Files) (p : Problem) (read : Result Certificate Cause) → FileReadsAs (IsInstance r.settings) r.instance files (Ok p) →
       FileReadsAs IsReadAs r.certificate files read → IfSome files (λ f. ComesTo f (Check r) (of_certificate r.settings p read))
   comes_on None p read is cert = tt
   comes_on (Some f) p read is cert = both_read p (file f r.instance) (file f r.certificate) read is cert
 
   -- ---- the report
-
-  instance_found : (found : Option (List ℕ)) (p : Problem) → IsSomeAnd found (λ b. IsInstance r b (Ok p)) →
-      option_map (instance_in r.settings) found ≡ Some (Ok p)
-  instance_found None p is = absurd is
-  instance_found (Some bytes) p is = ap Some (sym is)
 
   bytes_found : (found : Option (List ℕ)) (c : Certificate) → IsSomeAnd found (λ b. IsReadAs b (Ok c)) →
       (bytes : List ℕ) × (found ≡ Some bytes) × IsReadAs bytes (Ok c)
@@ -114,13 +106,13 @@ module _ (r : CheckRequest) where
   bytes_found (Some bytes) c is = (bytes, refl, is)
 
   answers : (f after : Files) (p : Problem) (c : Certificate) (text : List ℕ) (has_box : Bool) →
-      IsSomeAnd (file f r.instance) (λ b. IsInstance r b (Ok p)) → IsSomeAnd (file f r.certificate) (λ b. IsReadAs b (Ok c)) →
+      IsSomeAnd (file f r.instance) (λ b. IsInstance r.settings b (Ok p)) → IsSomeAnd (file f r.certificate) (λ b. IsReadAs b (Ok c)) →
       PrintsVerdict r.settings p c text has_box → Answers (Check r) f after text has_box
   answers f after p c text has_box is cert v =
       let found = bytes_found (file f r.certificate) c cert in
       record {
         problem = p;
-        instance_is = instance_found (file f r.instance) p is;
+        instance_is = instance_found r.settings (file f r.instance) p is;
         bytes = found.0;
         certificate_is = found.1;
         report = record {
@@ -136,7 +128,7 @@ module _ (r : CheckRequest) where
       }
 
   comes_printed : (files after : Option Files) (p : Problem) (c : Certificate) (text : List ℕ) (has_box : Bool) → after ≡ files →
-      FileReadsAs (IsInstance r) r.instance files (Ok p) → FileReadsAs IsReadAs r.certificate files (Ok c) →
+      FileReadsAs (IsInstance r.settings) r.instance files (Ok p) → FileReadsAs IsReadAs r.certificate files (Ok c) →
       PrintsVerdict r.settings p c text has_box →
       IfSome files (λ f. ComesTo f (Check r) Accepted × IsSomeAnd after (λ g. Answers (Check r) f g text has_box))
   comes_printed None after p c text has_box same is cert v = tt
@@ -147,7 +139,7 @@ module _ (r : CheckRequest) where
 
   -- ---- the outcome
 
-  pub ended_by_instance : (old new : StoreState) (outcome : Outcome) → Reads (IsInstance r) r.instance old new (Err outcome) →
+  pub ended_by_instance : (old new : StoreState) (outcome : Outcome) → Reads (IsInstance r.settings) r.instance old new (Err outcome) →
       Does (Check r) old new outcome
   ended_by_instance old new (WordsRefused text) reads = absurd reads.cause
   ended_by_instance old new (Refused cause) reads = record { files = reads.files; cause = comes_refused old.files cause reads.cause }
@@ -157,7 +149,7 @@ module _ (r : CheckRequest) where
   ended_by_instance old new WriteFault reads = absurd reads.cause
   ended_by_instance old new OutOfMemory reads = record { files = reads.files; cause = tt }
 
-  module _ (old middle new : StoreState) (p : Problem) (first : Reads (IsInstance r) r.instance old middle (Ok p)) where
+  module _ (old middle new : StoreState) (p : Problem) (first : Reads (IsInstance r.settings) r.instance old middle (Ok p)) where
     then_refused : (cause : Cause) → FileReadsAs IsReadAs r.certificate middle.files (Err cause) →
         IfSome old.files (λ f. ComesTo f (Check r) (RefusedBy cause))
     then_refused cause cert =
@@ -199,20 +191,3 @@ module _ (r : CheckRequest) where
       ended_by_verdict (WordsRefused text) j = absurd j
       ended_by_verdict (ReadFault name) j = absurd j
       ended_by_verdict WriteFault j = absurd j
-
--- ---- the words
-
-pub ended_by_words : (asked : Option Asked) (store : StoreState) (outcome : Outcome) → DeclinesWords asked outcome →
-    Works asked store store outcome
-ended_by_words None store (WordsRefused text) d = (refl, refl)
-ended_by_words None store OutOfMemory d = (tt, refl)
-ended_by_words (Some (Check r)) store (WordsRefused text) d = absurd (cc)
-ended_by_words (Some (Check r)) store OutOfMemory d = record { files = refl; cause = tt }
-ended_by_words asked store (Refused cause) d = absurd d
-ended_by_words asked store (Printed text has_box) d = absurd d
-ended_by_words asked store (ReadFault name) d = absurd d
-ended_by_words asked store WriteFault d = absurd d
-
-pub works-asked : (asked : Option Asked) (request : Asked) (old new : StoreState) (outcome : Outcome) → asked ≡ Some request →
-    Does request old new outcome → Works asked old new outcome
-works-asked asked request old new outcome is does = subst (λ o. Works o old new outcome) (sym is) does

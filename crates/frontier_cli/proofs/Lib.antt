@@ -1,5 +1,9 @@
 pub mod Pieces
 pub mod Steps
+pub mod Instances
 pub mod Checks
+pub mod Solves
+pub mod Solutions
+pub mod Works
 pub mod Once
 pub mod Told

@@ -8,10 +8,10 @@ use Rattle.cert_text.specs.Refusal.{HasOneText, IsCertText, IsRefusal}
 use Rattle.orienteering.specs.Instance.{Problem}
 use Rattle.orienteering.specs.Certificate.{Certificate}
 use Rattle.command_line.specs.declared.settings.Settings.{Settings}
-use Rattle.frontier_cli.specs.Asked.{Asked, Check}
+use Rattle.command_line.specs.Requests.{Request, Check, Solve, Generate, Demo}
 use Rattle.frontier_cli.specs.Outcome.{Cause, InstanceTooLong, InstanceRefused, CertUnread, CertRefused}
 use Rattle.frontier_cli.specs.Files.{instance_in, IsReadAs}
-use Rattle.frontier_cli.specs.Expected.{Expectation, of_certificate, CertificateComesTo, CheckReadComesTo, CheckComesTo, ComesTo}
+use Rattle.frontier_cli.specs.Expected.{Expectation, of_certificate, CertificateComesTo, CheckReadComesTo, CheckComesTo, SolveComesTo, ComesTo}
 
 same_cause : (a b : TextCause) → (a ≡ End → b ≡ End) → (b ≡ End → a ≡ End) → a ≡ b
 same_cause End b there back = sym (there refl)
@@ -63,5 +63,12 @@ module _ (one : HasOneText) where
   check_once s None certificate d e h k = h ∙ sym k
   check_once s (Some bytes) certificate d e h k = instance_once s (instance_in s bytes) certificate d e h k
 
-  pub comes_once : (files : Files) (asked : Asked) (d e : Expectation) → ComesTo files asked d → ComesTo files asked e → d ≡ e
+  solve_once : (s : Settings) (found : Option (List ℕ)) (d e : Expectation) → SolveComesTo s found d → SolveComesTo s found e → d ≡ e
+  solve_once s None d e h k = h ∙ sym k
+  solve_once s (Some bytes) d e h k = h ∙ sym k
+
+  pub comes_once : (files : Files) (asked : Request) (d e : Expectation) → ComesTo files asked d → ComesTo files asked e → d ≡ e
   comes_once files (Check r) d e h k = check_once r.settings (file files r.instance) (file files r.certificate) d e h k
+  comes_once files (Solve r) d e h k = solve_once r.settings (file files r.instance) d e h k
+  comes_once files (Generate r) d e h k = h ∙ sym k
+  comes_once files (Demo r) d e h k = h ∙ sym k

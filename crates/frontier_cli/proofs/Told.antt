@@ -6,13 +6,14 @@ use Rattle.edge_core.specs.Sink.{SinkState, Gains}
 use Rattle.edge_core.specs.SinkLaws.{front-all}
 use Rattle.orienteering.specs.declared.CheckFail.TheVariants.{OtherInstance, PointRefused, NotRising, NodeRefused, TooManyLabels, Shape, Memory}
 use Rattle.cert_text.specs.Refusal.{HasOneText}
-use Rattle.frontier_cli.specs.Asked.{Asked, Check}
+use Rattle.command_line.specs.Requests.{Request, Check, Solve, Generate, Demo}
 use Rattle.frontier_cli.specs.Outcome.{Cause, InstanceTooLong, InstanceRefused, CertUnread, CertRefused, Outcome, WordsRefused, Refused, Printed, ReadFault, WriteFault, OutOfMemory, status_of, cause_status, report_status}
 use Rattle.frontier_cli.specs.Expected.{Expectation, RefusedBy, Accepted, ComesTo}
 use Rattle.frontier_cli.specs.Answers.{Answers}
-use Rattle.frontier_cli.specs.Ran.{Names, Works, WorkCause, Tells, told, broke, no_memory, Prints, printed, Ends, Ran}
+use Rattle.frontier_cli.proofs.Solves.{changes_none}
+use Rattle.frontier_cli.specs.Ran.{LeavesOthers, Names, Works, WorkCause, Tells, told, broke, no_memory, Prints, printed, Ends, Ran}
 use Rattle.frontier_cli.specs.Ran as ran
-use Rattle.frontier_cli.specs.Promises.{Comes, Certified, EndsSo, FilesStay, IsHeadline, IsOfCause, IsPrinted, IsRefusedWith, KeptFrom, LeadsTo, PrintedFront, ReadFailed, TellsFront, TellsLine, WriteFailed}
+use Rattle.frontier_cli.specs.Promises.{Comes, Certified, EndsSo, FilesStay, HeadlineOf, IsOfCause, IsPrinted, IsRefusedWith, KeptFrom, LeadsTo, OthersStayBy, PrintedFront, PutFailedOrAnswered, ReadFailed, TellsFront, TellsLine, WriteFailed}
 use Rattle.frontier_cli.specs.Refusal.{refused}
 use Rattle.frontier_cli.specs.declared.refusal.Refusal.{Refusal}
 use Rattle.frontier_cli.specs.declared.refusal.Refusal.TheVariants as refusals
@@ -84,17 +85,17 @@ from_files None P Q p h = tt
 from_files (Some f) P Q p h = p f h
 
 module _ (one : HasOneText) (old new : StoreState) (out out' : SinkState) where
-  kept : (asked : Option Asked) (status : ℕ) → KeptFrom asked old new out out' status → EndsSo asked old new out out' status
+  kept : (asked : Option Request) (status : ℕ) → KeptFrom asked old new out out' status → EndsSo asked old new out out' status
   kept None status k = at_any old.files _ (λ f. tt)
   kept (Some request) status k = at_any old.files _ (λ f e comes. inr k)
 
-  led : (request : Asked) (status : ℕ) (d : Expectation) → LeadsTo d status → IfSome old.files (λ f. ComesTo f request d) →
+  led : (request : Request) (status : ℕ) (d : Expectation) → LeadsTo d status → IfSome old.files (λ f. ComesTo f request d) →
       EndsSo (Some request) old new out out' status
   led request status d leads comes =
       from_files old.files _ _ (λ f c e other. inl (subst (λ x. LeadsTo x status) (comes_once one f request d e c other) leads)) comes
 
   -- the outcome that was told
-  outcome_leads : (asked : Option Asked) (outcome : Outcome) (status : ℕ) → Works asked old new outcome → status ≡ status_of outcome →
+  outcome_leads : (asked : Option Request) (outcome : Outcome) (status : ℕ) → Works asked old new outcome → status ≡ status_of outcome →
       ((text : List ℕ) (has_box : Bool) → outcome ≡ Printed text has_box → ⊥) → EndsSo asked old new out out' status
   outcome_leads None outcome status works is plain = at_any old.files _ (λ f. tt)
   outcome_leads (Some request) (WordsRefused text) status works is plain = absurd works.cause
@@ -105,7 +106,7 @@ module _ (one : HasOneText) (old new : StoreState) (out out' : SinkState) where
   outcome_leads (Some request) WriteFault status works is plain = kept (Some request) status (inr (inr (is, inl works.cause)))
   outcome_leads (Some request) OutOfMemory status works is plain = kept (Some request) status (inl is)
 
-  pub always-told : (asked : Option Asked) (err err' : SinkState) (outcome : Outcome) (status : ℕ) →
+  pub always-told : (asked : Option Request) (err err' : SinkState) (outcome : Outcome) (status : ℕ) →
       ((text : List ℕ) (has_box : Bool) → outcome ≡ Printed text has_box → ⊥) → Works asked old new outcome →
       Tells outcome err err' status → EndsSo asked old new out out' status
   always-told asked err err' outcome status plain works tells =
@@ -114,15 +115,15 @@ module _ (one : HasOneText) (old new : StoreState) (out out' : SinkState) where
         | inr seven ↦ kept asked status (inl seven)
       ]
 
-  accepted_files : (request : Asked) (text : List ℕ) (has_box : Bool) → WorkCause request old new (Printed text has_box) →
+  accepted_files : (request : Request) (text : List ℕ) (has_box : Bool) → WorkCause request old new (Printed text has_box) →
       IfSome old.files (λ f. ComesTo f request Accepted)
   accepted_files request text has_box cause = from_files old.files _ _ (λ f both. both.0) cause
 
-  broke_off : (asked : Option Asked) (status : ℕ) → Rose out.faults out'.faults → (status ≡ 6) ⊎ (status ≡ 7) → EndsSo asked old new out out' status
+  broke_off : (asked : Option Request) (status : ℕ) → Rose out.faults out'.faults → (status ≡ 6) ⊎ (status ≡ 7) → EndsSo asked old new out out' status
   broke_off asked status rose (inl six) = kept asked status (inr (inr (six, inr rose)))
   broke_off asked status rose (inr seven) = kept asked status (inl seven)
 
-  pub always-printed : (asked : Option Asked) (err err' : SinkState) (text : List ℕ) (has_box : Bool) (status : ℕ) →
+  pub always-printed : (asked : Option Request) (err err' : SinkState) (text : List ℕ) (has_box : Bool) (status : ℕ) →
       Works asked old new (Printed text has_box) → Prints text has_box out out' err err' status → EndsSo asked old new out out' status
   always-printed None err err' text has_box status works prints = absurd works.0
   always-printed (Some request) err err' text has_box status works (printed is gains same) =
@@ -134,15 +135,10 @@ module _ (one : HasOneText) (old new : StoreState) (out out' : SinkState) where
 
 -- ---- the answers
 
-headline_at : (request : Asked) (before after : Files) (text : List ℕ) (has_box : Bool) (out out' : SinkState) (status : ℕ) →
+headline_at : (request : Request) (before after : Files) (text : List ℕ) (has_box : Bool) (out out' : SinkState) (status : ℕ) →
     Answers request before after text has_box → Gains text out.bytes out'.bytes → status ≡ report_status has_box →
-    IsHeadline (Some request) before out out' status
+    HeadlineOf request before out out' status
 headline_at (Check r) before after text has_box out out' status answers gains is = record {
-  asked = Check r;
-  asked_is = refl;
-  name = r.instance;
-  settings = r.settings;
-  reported = (refl, refl);
   problem = answers.problem;
   instance_is = answers.instance_is;
   text = text;
@@ -151,6 +147,17 @@ headline_at (Check r) before after text has_box out out' status answers gains is
   report = answers.certified;
   boxes = is;
 }
+headline_at (Solve r) before after text has_box out out' status answers gains is = record {
+  problem = answers.problem;
+  instance_is = answers.instance_is;
+  text = text;
+  has_box = has_box;
+  printed = gains;
+  report = answers.certified;
+  boxes = is;
+}
+headline_at (Generate r) before after text has_box out out' status answers gains is = tt
+headline_at (Demo r) before after text has_box out out' status answers gains is = tt
 
 some_after : (after : Option Files) (P : Files → Type 0) (X : Type 0) → ((g : Files) → P g → X) → IsSomeAnd after P → X
 some_after None P X p h = absurd h
@@ -161,8 +168,8 @@ both_after None P Q p h = absurd h
 both_after (Some g) P Q p h = p g h
 
 module _ (old new : StoreState) (out out' err err' : SinkState) (text : List ℕ) (has_box : Bool) (status : ℕ) where
-  pub headline : (asked : Option Asked) → Works asked old new (Printed text has_box) → Prints text has_box out out' err err' status →
-      IsPrinted status → IfSome old.files (λ before. IsHeadline asked before out out' status)
+  pub headline : (asked : Option Request) → Works asked old new (Printed text has_box) → Prints text has_box out out' err err' status →
+      IsPrinted status → IfSome old.files (λ before. IsSomeAnd asked (λ request. HeadlineOf request before out out' status))
   headline None works prints is = absurd works.0
   headline (Some request) works (printed same gains silent) is =
       from_files old.files _ _ (λ f both. some_after new.files _ _ (λ g answers. headline_at request f g text has_box out out' status answers gains same) both.1) works.cause
@@ -171,7 +178,7 @@ module _ (old new : StoreState) (out out' err err' : SinkState) (text : List ℕ
   headline (Some request) works (ran.print_no_memory same tells) is =
       absurd (write_is_not_printed status (inr (elim (tells-status OutOfMemory err err' status tells) [ inl e ↦ e | inr e ↦ e ])) is)
 
-  pub certified : (asked : Option Asked) → Works asked old new (Printed text has_box) → Prints text has_box out out' err err' status →
+  pub certified : (asked : Option Request) → Works asked old new (Printed text has_box) → Prints text has_box out out' err err' status →
       IsPrinted status → IfSome old.files (λ before. IsSomeAnd new.files (λ after. Certified asked before after out out' status))
   certified None works prints is = absurd works.0
   certified (Some request) works (printed same gains silent) is =
@@ -189,7 +196,7 @@ module _ (old new : StoreState) (out out' err err' : SinkState) (text : List ℕ
   certified (Some request) works (ran.print_no_memory same tells) is =
       absurd (write_is_not_printed status (inr (elim (tells-status OutOfMemory err err' status tells) [ inl e ↦ e | inr e ↦ e ])) is)
 
-pub printed_only : (old new : StoreState) (text : List ℕ) (has_box : Bool) (asked : Option Asked) → Works asked old new (Printed text has_box) →
+pub printed_only : (old new : StoreState) (text : List ℕ) (has_box : Bool) (asked : Option Request) → Works asked old new (Printed text has_box) →
     Comes asked old.files (λ e. e ≡ Accepted)
 printed_only old new text has_box None works = absurd works.0
 printed_only old new text has_box (Some request) works = from_files old.files _ _ (λ f both. (Accepted, both.0, refl)) works.cause
@@ -216,7 +223,7 @@ module _ (text : List ℕ) (has_box : Bool) (out out' err err' : SinkState) (sta
   pub print_of_words : (status ≡ 2) ⊎ (status ≡ 5) → ⊥
   print_of_words is = no_words status (prints_status text has_box out out' err err' status prints) is
 
-  pub print_write_fault : (asked : Option Asked) (old new : StoreState) → status ≡ 6 → WriteFailed asked old new out out'
+  pub print_write_fault : (asked : Option Request) (old new : StoreState) → status ≡ 6 → WriteFailed asked old new out out'
   print_write_fault asked old new six = go prints where
     go : Prints text has_box out out' err err' status → WriteFailed asked old new out out'
     go (printed is gains same) = absurd (write_is_not_printed status (inl six) (report_is_printed has_box status is))
@@ -246,7 +253,7 @@ module _ (text : List ℕ) (has_box : Bool) (out out' err err' : SinkState) (sta
     go (ran.print_broke rose front tells) = tells-line WriteFault err err' status not_7 tells
     go (ran.print_no_memory same tells) = tells-line OutOfMemory err err' status not_7 tells
 
-pub no_asked_prints : (asked : Option Asked) (old new : StoreState) (text : List ℕ) (has_box : Bool) → Works asked old new (Printed text has_box) →
+pub no_asked_prints : (asked : Option Request) (old new : StoreState) (text : List ℕ) (has_box : Bool) → Works asked old new (Printed text has_box) →
     asked ≡ None → ⊥
 no_asked_prints None old new text has_box works none = works.0
 no_asked_prints (Some request) old new text has_box works none = absurd (cc)
@@ -297,16 +304,16 @@ ends_told (refusals.Read name) out err err' status tells = (refl, tells)
 ends_told refusals.Write out err err' status tells = (refl, tells)
 ends_told refusals.Memory out err err' status tells = (refl, tells)
 
-pub ran_told : (asked : Option Asked) (old new : StoreState) (r : Refusal) (out err err' : SinkState) (status : ℕ) →
+pub ran_told : (asked : Option Request) (old new : StoreState) (r : Refusal) (out err err' : SinkState) (status : ℕ) →
     Works asked old new (refused r) → Tells (refused r) err err' status → Ran asked old new out out err err' status
 ran_told asked old new r out err err' status works tells =
     record { outcome = refused r; works = works; ends = ends_told r out err err' status tells }
 
 module _ (old new : StoreState) (outcome : Outcome) (plain : (text : List ℕ) (has_box : Bool) → outcome ≡ Printed text has_box → ⊥) (status : ℕ)
     (ends : (status ≡ status_of outcome) ⊎ (status ≡ 7)) where
-  pub told_cause : (asked : Option Asked) → Works asked old new outcome → IsOfCause status → Comes asked old.files (IsRefusedWith status)
+  pub told_cause : (asked : Option Request) → Works asked old new outcome → IsOfCause status → Comes asked old.files (IsRefusedWith status)
   told_cause asked works is = go asked outcome works plain ends where
-    go : (asked : Option Asked) (o : Outcome) → Works asked old new o → ((text : List ℕ) (has_box : Bool) → o ≡ Printed text has_box → ⊥) →
+    go : (asked : Option Request) (o : Outcome) → Works asked old new o → ((text : List ℕ) (has_box : Bool) → o ≡ Printed text has_box → ⊥) →
         (status ≡ status_of o) ⊎ (status ≡ 7) → Comes asked old.files (IsRefusedWith status)
     go asked o works p (inr seven) = absurd (grind arith)
     go (Some request) (Refused cause) works p (inl e) = from_files old.files _ _ (λ f comes. (RefusedBy cause, comes, e)) works.cause
@@ -322,9 +329,9 @@ module _ (old new : StoreState) (outcome : Outcome) (plain : (text : List ℕ) (
     go None (ReadFault name) works p (inl e) = absurd works.0
     go None WriteFault works p (inl e) = absurd works.0
 
-  pub told_words : (asked : Option Asked) → Works asked old new outcome → status ≡ 2 → asked ≡ None
+  pub told_words : (asked : Option Request) → Works asked old new outcome → status ≡ 2 → asked ≡ None
   told_words asked works two = go asked outcome works plain ends where
-    go : (asked : Option Asked) (o : Outcome) → Works asked old new o → ((text : List ℕ) (has_box : Bool) → o ≡ Printed text has_box → ⊥) →
+    go : (asked : Option Request) (o : Outcome) → Works asked old new o → ((text : List ℕ) (has_box : Bool) → o ≡ Printed text has_box → ⊥) →
         (status ≡ status_of o) ⊎ (status ≡ 7) → asked ≡ None
     go None o works p e = refl
     go (Some request) o works p (inr seven) = absurd (grind arith)
@@ -335,9 +342,9 @@ module _ (old new : StoreState) (outcome : Outcome) (plain : (text : List ℕ) (
     go (Some request) WriteFault works p (inl e) = absurd (grind arith)
     go (Some request) OutOfMemory works p (inl e) = absurd (grind arith)
 
-  pub told_words_refused : (asked : Option Asked) → Works asked old new outcome → asked ≡ None → (status ≡ 2) ⊎ (status ≡ 7)
+  pub told_words_refused : (asked : Option Request) → Works asked old new outcome → asked ≡ None → (status ≡ 2) ⊎ (status ≡ 7)
   told_words_refused asked works none = go asked outcome works none ends where
-    go : (asked : Option Asked) (o : Outcome) → Works asked old new o → asked ≡ None → (status ≡ status_of o) ⊎ (status ≡ 7) →
+    go : (asked : Option Request) (o : Outcome) → Works asked old new o → asked ≡ None → (status ≡ status_of o) ⊎ (status ≡ 7) →
         (status ≡ 2) ⊎ (status ≡ 7)
     go asked o works none (inr seven) = inr seven
     go (Some request) o works none (inl e) = absurd (cc)
@@ -348,9 +355,9 @@ module _ (old new : StoreState) (outcome : Outcome) (plain : (text : List ℕ) (
     go None (ReadFault name) works none (inl e) = absurd works.0
     go None WriteFault works none (inl e) = absurd works.0
 
-  pub told_read_fault : (asked : Option Asked) → Works asked old new outcome → status ≡ 5 → ReadFailed asked old new
+  pub told_read_fault : (asked : Option Request) → Works asked old new outcome → status ≡ 5 → ReadFailed asked old new
   told_read_fault asked works five = go asked outcome works plain ends where
-    go : (asked : Option Asked) (o : Outcome) → Works asked old new o → ((text : List ℕ) (has_box : Bool) → o ≡ Printed text has_box → ⊥) →
+    go : (asked : Option Request) (o : Outcome) → Works asked old new o → ((text : List ℕ) (has_box : Bool) → o ≡ Printed text has_box → ⊥) →
         (status ≡ status_of o) ⊎ (status ≡ 7) → ReadFailed asked old new
     go asked o works p (inr seven) = absurd (grind arith)
     go (Some request) (ReadFault name) works p (inl e) = (subst (Names request) (sym works.cause.1) works.cause.0, works.cause.2)
@@ -366,10 +373,10 @@ module _ (old new : StoreState) (outcome : Outcome) (plain : (text : List ℕ) (
     go None (ReadFault name) works p (inl e) = absurd works.0
     go None WriteFault works p (inl e) = absurd works.0
 
-  pub told_write_fault : (asked : Option Asked) (out out' : SinkState) → Works asked old new outcome → status ≡ 6 →
+  pub told_write_fault : (asked : Option Request) (out out' : SinkState) → Works asked old new outcome → status ≡ 6 →
       WriteFailed asked old new out out'
   told_write_fault asked out out' works six = go asked outcome works plain ends where
-    go : (asked : Option Asked) (o : Outcome) → Works asked old new o → ((text : List ℕ) (has_box : Bool) → o ≡ Printed text has_box → ⊥) →
+    go : (asked : Option Request) (o : Outcome) → Works asked old new o → ((text : List ℕ) (has_box : Bool) → o ≡ Printed text has_box → ⊥) →
         (status ≡ status_of o) ⊎ (status ≡ 7) → WriteFailed asked old new out out'
     go asked o works p (inr seven) = absurd (grind arith)
     go (Some request) WriteFault works p (inl e) = inl works.cause
@@ -387,7 +394,61 @@ module _ (old new : StoreState) (outcome : Outcome) (plain : (text : List ℕ) (
 
 -- ---- the files
 
-pub files_stay : (asked : Option Asked) (old new : StoreState) (outcome : Outcome) (status : ℕ) → Works asked old new outcome →
+-- which files a request leaves, where it may have put one
+put_perhaps : (name : List ℕ) (outcome : Outcome) (status : ℕ) (old new : Option Files) →
+    (status ≡ status_of outcome) ⊎ (status ≡ 7) → ((text : List ℕ) (has_box : Bool) → outcome ≡ Printed text has_box → ⊥) →
+    LeavesOthers name outcome old new → OthersStayBy name status old new
+put_perhaps name (WordsRefused text) status old new ends plain same = record { others = changes_none name old new same; all = λ _. same }
+put_perhaps name (Refused cause) status old new ends plain same = record { others = changes_none name old new same; all = λ _. same }
+put_perhaps name (ReadFault at) status old new ends plain same = record { others = changes_none name old new same; all = λ _. same }
+put_perhaps name (Printed text has_box) status old new ends plain others = absurd (plain text has_box refl)
+put_perhaps name WriteFault status old new ends plain others = record { others = others; all = λ none. absurd (none (inr ends)) }
+put_perhaps name OutOfMemory status old new ends plain others =
+    record { others = others; all = λ none. absurd (none (inr (inr (elim ends [ inl e ↦ e | inr e ↦ e ])))) }
+
+pub files_stay_told : (asked : Option Request) (old new : StoreState) (outcome : Outcome) (status : ℕ) → Works asked old new outcome →
+    (status ≡ status_of outcome) ⊎ (status ≡ 7) → ((text : List ℕ) (has_box : Bool) → outcome ≡ Printed text has_box → ⊥) →
     FilesStay asked status old.files new.files
-files_stay None old new outcome status works = ap (λ s. s.files) works.1
-files_stay (Some (Check r)) old new outcome status works = works.files
+files_stay_told None old new outcome status works ends plain = ap (λ s. s.files) works.1
+files_stay_told (Some (Check r)) old new outcome status works ends plain = works.files
+files_stay_told (Some (Solve r)) old new outcome status works ends plain =
+    put_perhaps r.out outcome status old.files new.files ends plain works.files
+files_stay_told (Some (Generate r)) old new outcome status works ends plain = works.files
+files_stay_told (Some (Demo r)) old new outcome status works ends plain = works.files
+
+pub files_stay_printed : (asked : Option Request) (old new : StoreState) (text : List ℕ) (has_box : Bool) (out out' err err' : SinkState) (status : ℕ) →
+    Works asked old new (Printed text has_box) → Prints text has_box out out' err err' status → FilesStay asked status old.files new.files
+files_stay_printed None old new text has_box out out' err err' status works prints = absurd works.0
+files_stay_printed (Some (Check r)) old new text has_box out out' err err' status works prints = works.files
+files_stay_printed (Some (Solve r)) old new text has_box out out' err err' status works prints = record {
+  others = works.files;
+  all = λ none. absurd (none (prints_status text has_box out out' err err' status prints));
+}
+files_stay_printed (Some (Generate r)) old new text has_box out out' err err' status works prints = works.files
+files_stay_printed (Some (Demo r)) old new text has_box out out' err err' status works prints = works.files
+
+-- ---- what the store holds where nothing could be printed
+
+pub answered_printed : (asked : Option Request) (old new : StoreState) (text : List ℕ) (has_box : Bool) → Works asked old new (Printed text has_box) →
+    PutFailedOrAnswered asked old new
+answered_printed None old new text has_box works = absurd works.0
+answered_printed (Some request) old new text has_box works =
+    inr (from_files old.files _ _ (λ f both. both_after new.files _ _ (λ g answers. (text, has_box, answers)) both.1) works.cause)
+
+-- what was told with status 6 is a failed put
+pub answered_told : (asked : Option Request) (old new : StoreState) (outcome : Outcome) (status : ℕ) → Works asked old new outcome →
+    (status ≡ status_of outcome) ⊎ (status ≡ 7) → ((text : List ℕ) (has_box : Bool) → outcome ≡ Printed text has_box → ⊥) → status ≡ 6 →
+    PutFailedOrAnswered asked old new
+answered_told asked old new outcome status works (inr seven) plain six = absurd (six_is_not_7 status six seven)
+answered_told (Some request) old new WriteFault status works (inl e) plain six = inl works.cause
+answered_told (Some request) old new (Refused cause) status works (inl e) plain six = absurd (cause_is_no_other cause status e (inr (inr (inl six))))
+answered_told (Some request) old new (WordsRefused text) status works (inl e) plain six = absurd works.cause
+answered_told (Some request) old new (Printed text has_box) status works (inl e) plain six = absurd (plain text has_box refl)
+answered_told (Some request) old new (ReadFault name) status works (inl e) plain six = absurd (grind arith)
+answered_told (Some request) old new OutOfMemory status works (inl e) plain six = absurd (grind arith)
+answered_told None old new (WordsRefused text) status works (inl e) plain six = absurd (grind arith)
+answered_told None old new OutOfMemory status works (inl e) plain six = absurd (grind arith)
+answered_told None old new (Refused cause) status works (inl e) plain six = absurd works.0
+answered_told None old new (Printed text has_box) status works (inl e) plain six = absurd works.0
+answered_told None old new (ReadFault name) status works (inl e) plain six = absurd works.0
+answered_told None old new WriteFault status works (inl e) plain six = absurd works.0

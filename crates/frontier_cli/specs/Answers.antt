@@ -1,5 +1,5 @@
 -- What is printed, and what it says.
-use Rattle.std.specs.Prelude.{◌≡◌, ◌==◌, ℕ, not, Bool, false, List, length, Option, Some, Ok, option_map}
+use Rattle.std.specs.Prelude.{◌≡◌, ◌==◌, ◌≤◌, ℕ, not, Bool, true, false, List, [], ◌++◌, length, Option, Some, Ok, option_map, if◌then◌else◌}
 use Rattle.edge_core.specs.Store.{Files, file}
 use Rattle.orienteering.specs.Instance.{Problem}
 use Rattle.orienteering.specs.Certificate.{Certificate, Acceptance}
@@ -8,10 +8,13 @@ use Rattle.orienteering.specs.Frontier.{IsFrontier, IsWholeFrontier}
 use Rattle.orienteering.specs.declared.Box2.{Box2}
 use Rattle.orienteering.specs.declared.Listed.{Listed}
 use Rattle.cert_text.specs.Text.{cert_text, IsCert}
-use Rattle.report_text.specs.Report.{report_text}
-use Rattle.frontier_cli.specs.Asked.{Asked, Check}
+use Rattle.report_text.specs.Report.{report_text, summary_text}
+use Rattle.instance_gen.specs.Generated.{generated}
+use Rattle.command_line.specs.Requests.{Request, Check, Solve, Generate, Demo}
+use Rattle.sweep_solver.specs.Solved.{IsSolved, UsesUp}
+use Rattle.command_line.specs.Requests.{SolveRequest, GenerateRequest, DemoRequest}
 use Rattle.command_line.specs.declared.settings.Settings.{Settings}
-use Rattle.frontier_cli.specs.Files.{instance_in}
+use Rattle.frontier_cli.specs.Files.{demo_instance, demo_nodes, demo_settings, instance_in}
 
 abbrev pub has_some : List Box2 → Bool
 has_some boxes = not (length boxes == 0)
@@ -45,6 +48,45 @@ pub record Reports (s : Settings) (instance certificate : Option (List ℕ)) (te
   pub report : IsReportOf s problem bytes text has_box
   pub certified : IsCertifiedReport s problem text has_box
 
+-- the certificate that was put, for the instance under a name: it is solved within the request's nodes and covers its
+-- starting plans, the text reports what it accepts, and a box is left only where the nodes are used up
+pub record Solves (r : SolveRequest) (instance out : Option (List ℕ)) (text : List ℕ) (has_box : Bool) : Type 0 where
+  pub problem : Problem
+  pub instance_is : option_map (instance_in r.settings) instance ≡ Some (Ok problem)
+  pub bytes : List ℕ
+  pub put : out ≡ Some bytes
+  pub report : IsReportOf r.settings problem bytes text has_box
+  pub solved : IsSolved problem r.settings.labels r.nodes r.seed report.certificate
+  pub boxes : has_box ≡ true → UsesUp r.nodes (length report.certificate.nodes)
+  pub certified : IsCertifiedReport r.settings problem text has_box
+
+-- the generated instance, which has no box
+abbrev pub IsGenerated : GenerateRequest → List ℕ → Bool → Type 0
+IsGenerated r text has_box = (text ≡ generated r.seed r.calls r.format) × (has_box ≡ false)
+
+-- the text of the certificate where a box is left, and nothing else
+abbrev pub behind : Bool → Certificate → List ℕ
+behind has_box certificate = if has_box then cert_text certificate else []
+
+-- the summary of a frontier of the generated instance, and behind it the certificate where a box is left, for which the
+-- nodes were used up; without a box the listed points are exactly the nondominated ones
+pub record Demonstrates (r : DemoRequest) (text : List ℕ) (has_box : Bool) : Type 0 where
+  pub problem : Problem
+  pub instance_is : demo_instance r ≡ Ok problem
+  pub certificate : Certificate
+  pub is_cert : has_box ≡ true → IsCert certificate
+  pub solved : IsSolved problem (demo_settings r).labels (Some demo_nodes) 0 certificate
+  pub accepted : Acceptance
+  pub verdict : decide problem (demo_settings r).labels certificate ≡ Ok accepted
+  pub printed : text ≡ summary_text r.calls accepted.points accepted.boxes ++ behind has_box certificate
+  pub left : has_box ≡ has_some accepted.boxes
+  pub boxes : has_box ≡ true → demo_nodes ≤ length certificate.nodes
+  pub frontier : IsFrontier problem accepted.points accepted.boxes
+  pub whole : has_box ≡ false → IsWholeFrontier problem accepted.points
+
 -- what the printed text of a request says, by the files before and after
-abbrev pub Answers : Asked → Files → Files → List ℕ → Bool → Type 0
+abbrev pub Answers : Request → Files → Files → List ℕ → Bool → Type 0
 Answers (Check r) before after text has_box = Reports r.settings (file before r.instance) (file before r.certificate) text has_box
+Answers (Solve r) before after text has_box = Solves r (file before r.instance) (file after r.out) text has_box
+Answers (Generate r) before after text has_box = IsGenerated r text has_box
+Answers (Demo r) before after text has_box = Demonstrates r text has_box

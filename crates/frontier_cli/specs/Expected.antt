@@ -5,10 +5,10 @@ use Rattle.orienteering.specs.Instance.{Problem}
 use Rattle.orienteering.specs.Certificate.{Certificate, Acceptance}
 use Rattle.orienteering.specs.Decide.{decide}
 use Rattle.orienteering.specs.declared.CheckFail.{CheckFail}
-use Rattle.frontier_cli.specs.Asked.{Asked, Check}
+use Rattle.command_line.specs.Requests.{Request, Check, Solve, Generate, Demo}
 use Rattle.command_line.specs.declared.settings.Settings.{Settings}
 use Rattle.frontier_cli.specs.Outcome.{Cause, CertRefused}
-use Rattle.frontier_cli.specs.Files.{instance_in, IsReadAs}
+use Rattle.frontier_cli.specs.Files.{demo_instance, instance_in, IsReadAs}
 
 pub data Expectation : Type 0 where
   -- a file that is needed is missing
@@ -39,6 +39,18 @@ abbrev pub CheckComesTo : Settings → Option (List ℕ) → Option (List ℕ) �
 CheckComesTo s None cert e = e ≡ Missing
 CheckComesTo s (Some bytes) cert e = CheckReadComesTo s (instance_in s bytes) cert e
 
+abbrev pub of_instance : Result Problem Cause → Expectation
+of_instance (Ok p) = Accepted
+of_instance (Err cause) = RefusedBy cause
+
+-- an instance that is read is solved
+abbrev pub SolveComesTo : Settings → Option (List ℕ) → Expectation → Type 0
+SolveComesTo s None e = e ≡ Missing
+SolveComesTo s (Some bytes) e = e ≡ of_instance (instance_in s bytes)
+
 -- what a command comes to over these files
-abbrev pub ComesTo : Files → Asked → Expectation → Type 0
+abbrev pub ComesTo : Files → Request → Expectation → Type 0
 ComesTo files (Check r) e = CheckComesTo r.settings (file files r.instance) (file files r.certificate) e
+ComesTo files (Solve r) e = SolveComesTo r.settings (file files r.instance) e
+ComesTo files (Generate r) e = e ≡ Accepted
+ComesTo files (Demo r) e = e ≡ of_instance (demo_instance r)

@@ -1,10 +1,10 @@
 -- What a user may rely on, one fact at a time.
 use Rattle.std.specs.Prelude.{◌≡◌, ◌⊎◌, ℕ, Bool, List, Option, Some, None, Ok, IfSome, IsSomeAnd, option_map}
 use Rattle.edge_core.specs.Faults.{Rose}
-use Rattle.edge_core.specs.Store.{Files, StoreState, file}
+use Rattle.edge_core.specs.Store.{Files, StoreState, file, ChangesOnly}
 use Rattle.edge_core.specs.Sink.{SinkState, Gains, GainsFront}
 use Rattle.orienteering.specs.Instance.{Problem}
-use Rattle.frontier_cli.specs.Asked.{Asked, Check}
+use Rattle.command_line.specs.Requests.{Request, Check, Solve, Generate, Demo}
 use Rattle.command_line.specs.declared.settings.Settings.{Settings}
 use Rattle.frontier_cli.specs.Outcome.{Outcome, status_of, cause_status, report_status, line_of}
 use Rattle.frontier_cli.specs.Files.{instance_in}
@@ -21,7 +21,7 @@ abbrev pub IsOfCause : ℕ → Type 0
 IsOfCause status = (status ≡ 1) ⊎ (status ≡ 4) ⊎ (status ≡ 8) ⊎ (status ≡ 9)
 
 -- the files of accepted words come to something of which this holds, where the store tells them
-abbrev pub Comes : Option Asked → Option Files → (Expectation → Type 0) → Type 0
+abbrev pub Comes : Option Request → Option Files → (Expectation → Type 0) → Type 0
 Comes request files P =
     IfSome files (λ files. IsSomeAnd request (λ asked. (e : Expectation) × ComesTo files asked e × P e))
 
@@ -32,16 +32,16 @@ IsRefusedWith status Missing = ⊥
 IsRefusedWith status Accepted = ⊥
 
 -- a read of a named file failed in this run
-abbrev pub ReadFailed : Option Asked → StoreState → StoreState → Type 0
+abbrev pub ReadFailed : Option Request → StoreState → StoreState → Type 0
 ReadFailed request old new = IsSomeAnd request (λ asked. Names asked new.failed) × Rose old.get_faults new.get_faults
 
 -- a put failed in this run, or the write of what was to be printed did
-abbrev pub WriteFailed : Option Asked → StoreState → StoreState → SinkState → SinkState → Type 0
+abbrev pub WriteFailed : Option Request → StoreState → StoreState → SinkState → SinkState → Type 0
 WriteFailed request store store' out out' =
     IsSomeAnd request (λ asked. PutFailed asked store store') ⊎ Rose out.faults out'.faults
 
 -- what kept a run from the status of its files: want of memory, or a fault
-abbrev pub KeptFrom : Option Asked → StoreState → StoreState → SinkState → SinkState → ℕ → Type 0
+abbrev pub KeptFrom : Option Request → StoreState → StoreState → SinkState → SinkState → ℕ → Type 0
 KeptFrom request store store' out out' status =
     (status ≡ 7) ⊎ ((status ≡ 5) × ReadFailed request store store') ⊎ ((status ≡ 6) × WriteFailed request store store' out out')
 
@@ -52,14 +52,14 @@ LeadsTo (RefusedBy cause) status = status ≡ cause_status cause
 LeadsTo Accepted status = IsPrinted status
 
 -- where the store tells its files and the words are accepted, the run ends as the files say, or was kept from it
-abbrev pub EndsSo : Option Asked → StoreState → StoreState → SinkState → SinkState → ℕ → Type 0
+abbrev pub EndsSo : Option Request → StoreState → StoreState → SinkState → SinkState → ℕ → Type 0
 EndsSo request store store' out out' status =
     IfSome store.files (λ files. IfSome request (λ asked. (e : Expectation) → ComesTo files asked e →
     LeadsTo e status ⊎ KeptFrom request store store' out out' status))
 
 -- what was printed answers the request by the files before and after, and has a box exactly with status 3
-pub record Certified (request : Option Asked) (before after : Files) (out out' : SinkState) (status : ℕ) : Type 0 where
-  pub asked : Asked
+pub record Certified (request : Option Request) (before after : Files) (out out' : SinkState) (status : ℕ) : Type 0 where
+  pub asked : Request
   pub asked_is : request ≡ Some asked
   pub text : List ℕ
   pub has_box : Bool
@@ -67,19 +67,11 @@ pub record Certified (request : Option Asked) (before after : Files) (out out' :
   pub printed : Gains text out.bytes out'.bytes
   pub boxes : status ≡ report_status has_box
 
--- the request reports a frontier of the instance in this file
-abbrev pub IsReported : Asked → List ℕ → Settings → Type 0
-IsReported (Check r) name settings = (name ≡ r.instance) × (settings ≡ r.settings)
-
 -- The headline. What was printed are points with plans, and boxes: each plan is feasible and reaches its point, no listed
--- point weakly dominates another, and every feasible plan of the instance is weakly dominated by a listed point or lies in
--- a listed box. With status 0 there is no box, and the points are exactly the nondominated ones, by rising profit.
-pub record IsHeadline (request : Option Asked) (before : Files) (out out' : SinkState) (status : ℕ) : Type 0 where
-  pub asked : Asked
-  pub asked_is : request ≡ Some asked
-  pub name : List ℕ
-  pub settings : Settings
-  pub reported : IsReported asked name settings
+-- point weakly dominates another, and every feasible plan of the instance that this file describes is weakly dominated by
+-- a listed point or lies in a listed box. With status 0 there is no box, and the points are exactly the nondominated ones,
+-- by rising profit.
+pub record IsHeadline (name : List ℕ) (settings : Settings) (before : Files) (out out' : SinkState) (status : ℕ) : Type 0 where
   pub problem : Problem
   pub instance_is : option_map (instance_in settings) (file before name) ≡ Some (Ok problem)
   pub text : List ℕ
@@ -88,10 +80,40 @@ pub record IsHeadline (request : Option Asked) (before : Files) (out out' : Sink
   pub report : IsCertifiedReport settings problem text has_box
   pub boxes : status ≡ report_status has_box
 
+-- the headline of each request that reports a frontier of an instance in a file
+abbrev pub HeadlineOf : Request → Files → SinkState → SinkState → ℕ → Type 0
+HeadlineOf (Check r) before out out' status = IsHeadline r.instance r.settings before out out' status
+HeadlineOf (Solve r) before out out' status = IsHeadline r.instance r.settings before out out' status
+HeadlineOf (Generate r) before out out' status = Unit {0}
+HeadlineOf (Demo r) before out out' status = Unit {0}
+
+-- what the store holds answers the request
+abbrev pub IsAnswered : Option Request → Files → Files → Type 0
+IsAnswered request before after =
+    IsSomeAnd request (λ asked. (text : List ℕ) × (has_box : Bool) × Answers asked before after text has_box)
+
+-- a put failed in this run, or what the store holds answers the request all the same
+abbrev pub PutFailedOrAnswered : Option Request → StoreState → StoreState → Type 0
+PutFailedOrAnswered request old new =
+    IsSomeAnd request (λ asked. PutFailed asked old new)
+    ⊎ IfSome old.files (λ before. IsSomeAnd new.files (λ after. IsAnswered request before after))
+
+-- with these statuses the file of a certificate may have been put
+abbrev pub MayHavePut : ℕ → Type 0
+MayHavePut status = IsPrinted status ⊎ ((status ≡ 6) ⊎ (status ≡ 7))
+
+-- every file but this one stays, and with most statuses this one too
+pub record OthersStayBy (name : List ℕ) (status : ℕ) (old new : Option Files) : Type 0 where
+  pub others : ChangesOnly name old new
+  pub all : (MayHavePut status → ⊥) → new ≡ old
+
 -- which files stay
-abbrev pub FilesStay : Option Asked → ℕ → Option Files → Option Files → Type 0
+abbrev pub FilesStay : Option Request → ℕ → Option Files → Option Files → Type 0
 FilesStay None status old new = new ≡ old
 FilesStay (Some (Check r)) status old new = new ≡ old
+FilesStay (Some (Solve r)) status old new = OthersStayBy r.out status old new
+FilesStay (Some (Generate r)) status old new = new ≡ old
+FilesStay (Some (Demo r)) status old new = new ≡ old
 
 -- nothing was printed, or the front of a text where the sink failed
 abbrev pub PrintedFront : SinkState → SinkState → Type 0

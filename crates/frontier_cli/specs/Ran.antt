@@ -1,19 +1,24 @@
 -- How a run goes, step by step: what it reads, what it comes to, what it prints and what it tells.
-use Rattle.std.specs.Prelude.{◌≡◌, ◌⊎◌, ◌≤◌, ℕ, Bool, List, Option, Some, None, Result, Ok, Err, IfSome, IsSomeAnd}
+use Rattle.std.specs.Prelude.{◌≡◌, ◌⊎◌, ◌≤◌, ℕ, Bool, true, List, [], ◌++◌, length, Option, Some, None, Result, Ok, Err, IfSome, IsSomeAnd}
 use Rattle.edge_core.specs.Faults.{Rose}
-use Rattle.edge_core.specs.Store.{Files, StoreState, file}
+use Rattle.edge_core.specs.Store.{Files, StoreState, file, ChangesOnly, Holds}
 use Rattle.edge_core.specs.Sink.{SinkState, Gains, GainsFront}
-use Rattle.frontier_cli.specs.Asked.{Asked, Check}
+use Rattle.sweep_solver.specs.Solved.{IsSolved, UsesUp}
+use Rattle.cert_text.specs.Text.{cert_text, IsCert}
+use Rattle.command_line.specs.Requests.{SolveRequest, GenerateRequest, DemoRequest}
+use Rattle.command_line.specs.Requests.{Request, Check, Solve, Generate, Demo}
 use Rattle.orienteering.specs.Certificate.{Certificate, Acceptance}
 use Rattle.orienteering.specs.Decide.{decide}
+use Rattle.orienteering.specs.Frontier.{IsFrontier, IsWholeFrontier}
 use Rattle.orienteering.specs.Instance.{Problem}
 use Rattle.orienteering.specs.declared.CheckFail.{CheckFail}
 use Rattle.orienteering.specs.declared.CheckFail.TheVariants.{Memory}
 use Rattle.command_line.specs.declared.settings.Settings.{Settings}
-use Rattle.report_text.specs.Report.{report_text}
+use Rattle.report_text.specs.Report.{report_text, summary_text}
 use Rattle.frontier_cli.specs.Outcome.{Cause, CertRefused, Outcome, WordsRefused, Refused, Printed, Step, ReadFault, WriteFault, OutOfMemory, status_of, report_status, line_of}
+use Rattle.frontier_cli.specs.Files.{demo_instance}
 use Rattle.frontier_cli.specs.Expected.{RefusedBy, Accepted, ComesTo, of_verdict}
-use Rattle.frontier_cli.specs.Answers.{Answers, IsCertifiedReport, has_some}
+use Rattle.frontier_cli.specs.Answers.{Answers, Demonstrates, IsCertifiedReport, IsGenerated, behind, has_some}
 
 -- the bytes of the file are read as this, where the store tells
 abbrev pub FileReadsAs : {V : Type 0} → (List ℕ → Result V Cause → Type 0) → List ℕ → Option Files → Result V Cause → Type 0
@@ -66,21 +71,81 @@ Judges s p c (Printed text has_box) = PrintsVerdict s p c text has_box
 Judges s p c OutOfMemory = Unit {0}
 Judges s p c outcome = ⊥
 
+-- a certificate that solves the instance, with what it accepts
+pub record IsFound (p : Problem) (labels : ℕ) (nodes : Option ℕ) (seed : ℕ) (c : Certificate) (a : Acceptance) : Type 0 where
+  pub solved : IsSolved p labels nodes seed c
+  pub verdict : decide p labels c ≡ Ok a
+  pub frontier : IsFrontier p a.points a.boxes
+  pub whole : a.boxes ≡ [] → IsWholeFrontier p a.points
+
+-- the text of the certificate, and the report of what it accepts
+pub record IsTold (s : Settings) (c : Certificate) (a : Acceptance) (bytes text : List ℕ) (has_box : Bool) : Type 0 where
+  pub is_cert : IsCert c
+  pub bytes_are : bytes ≡ cert_text c
+  pub printed : text ≡ report_text s.style a.points a.boxes
+  pub left : has_box ≡ has_some a.boxes
+
+-- the summary of what is accepted, and the certificate behind it where a box is left
+pub record IsSummary (calls : ℕ) (c : Certificate) (a : Acceptance) (text : List ℕ) (has_box : Bool) : Type 0 where
+  pub is_cert : has_box ≡ true → IsCert c
+  pub printed : text ≡ summary_text calls a.points a.boxes ++ behind has_box c
+  pub left : has_box ≡ has_some a.boxes
+
+-- a certificate that solves the instance, with its text and its report
+pub record IsSolution (r : SolveRequest) (p : Problem) (bytes text : List ℕ) (has_box : Bool) : Type 0 where
+  pub certificate : Certificate
+  pub is_cert : IsCert certificate
+  pub bytes_are : bytes ≡ cert_text certificate
+  pub verdict : PrintsVerdict r.settings p certificate text has_box
+  pub solved : IsSolved p r.settings.labels r.nodes r.seed certificate
+  pub boxes : has_box ≡ true → UsesUp r.nodes (length certificate.nodes)
+
+-- why a put ended so: the name holds the bytes, a count rose, or want of memory
+abbrev pub PutCause : List ℕ → List ℕ → StoreState → StoreState → Step (Unit {0}) → Type 0
+PutCause name bytes old new (Ok done) = Holds name bytes new.files
+PutCause name bytes old new (Err WriteFault) = Rose old.put_faults new.put_faults
+PutCause name bytes old new (Err OutOfMemory) = Unit {0}
+PutCause name bytes old new (Err outcome) = ⊥
+
+-- a step that puts these bytes under this name
+pub record Puts (name bytes : List ℕ) (old new : StoreState) (step : Step (Unit {0})) : Type 0 where
+  pub only : ChangesOnly name old.files new.files
+  pub cause : PutCause name bytes old new step
+
+-- the generated instance is printed; want of memory is free
+abbrev pub Generates : GenerateRequest → Outcome → Type 0
+Generates r (Printed text has_box) = IsGenerated r text has_box
+Generates r OutOfMemory = Unit {0}
+Generates r outcome = ⊥
+
+-- the generated instance is refused, or its summary is printed; want of memory is free
+abbrev pub Demos : DemoRequest → Outcome → Type 0
+Demos r (Refused cause) = demo_instance r ≡ Err cause
+Demos r (Printed text has_box) = Demonstrates r text has_box
+Demos r OutOfMemory = Unit {0}
+Demos r outcome = ⊥
+
 -- the outcome of a refused certificate
 abbrev pub refused_by : CheckFail → Outcome
 refused_by Memory = OutOfMemory
 refused_by fail = Refused (CertRefused fail)
 
 -- the request reads the file of this name
-abbrev pub Names : Asked → List ℕ → Type 0
+abbrev pub Names : Request → List ℕ → Type 0
 Names (Check r) name = (name ≡ r.instance) ⊎ (name ≡ r.certificate)
+Names (Solve r) name = name ≡ r.instance
+Names (Generate r) name = ⊥
+Names (Demo r) name = ⊥
 
 -- a put of the request failed
-abbrev pub PutFailed : Asked → StoreState → StoreState → Type 0
+abbrev pub PutFailed : Request → StoreState → StoreState → Type 0
 PutFailed (Check r) old new = ⊥
+PutFailed (Solve r) old new = Rose old.put_faults new.put_faults
+PutFailed (Generate r) old new = ⊥
+PutFailed (Demo r) old new = ⊥
 
 -- why the work of a request came to this
-abbrev pub WorkCause : Asked → StoreState → StoreState → Outcome → Type 0
+abbrev pub WorkCause : Request → StoreState → StoreState → Outcome → Type 0
 WorkCause request old new (WordsRefused text) = ⊥
 WorkCause request old new (Refused cause) = IfSome old.files (λ files. ComesTo files request (RefusedBy cause))
 WorkCause request old new (Printed text has_box) =
@@ -89,12 +154,24 @@ WorkCause request old new (ReadFault name) = Names request name × (new.failed �
 WorkCause request old new WriteFault = PutFailed request old new
 WorkCause request old new OutOfMemory = Unit {0}
 
+-- a refusal leaves all files, and every other outcome all but this one
+abbrev pub LeavesOthers : List ℕ → Outcome → Option Files → Option Files → Type 0
+LeavesOthers name (WordsRefused text) old new = new ≡ old
+LeavesOthers name (Refused cause) old new = new ≡ old
+LeavesOthers name (ReadFault at) old new = new ≡ old
+LeavesOthers name (Printed text has_box) old new = ChangesOnly name old new
+LeavesOthers name WriteFault old new = ChangesOnly name old new
+LeavesOthers name OutOfMemory old new = ChangesOnly name old new
+
 -- which files the work leaves, by what it came to
-abbrev pub Leaves : Asked → Outcome → Option Files → Option Files → Type 0
+abbrev pub Leaves : Request → Outcome → Option Files → Option Files → Type 0
 Leaves (Check r) outcome old new = new ≡ old
+Leaves (Solve r) outcome old new = LeavesOthers r.out outcome old new
+Leaves (Generate r) outcome old new = new ≡ old
+Leaves (Demo r) outcome old new = new ≡ old
 
 -- the work of accepted words
-pub record Does (request : Asked) (old new : StoreState) (outcome : Outcome) : Type 0 where
+pub record Does (request : Request) (old new : StoreState) (outcome : Outcome) : Type 0 where
   pub files : Leaves request outcome old.files new.files
   pub cause : WorkCause request old new outcome
 
@@ -104,13 +181,13 @@ Declines (WordsRefused text) = Unit {0}
 Declines outcome = ⊥
 
 -- the words are refused, since they ask for nothing; want of memory is free
-abbrev pub DeclinesWords : Option Asked → Outcome → Type 0
+abbrev pub DeclinesWords : Option Request → Outcome → Type 0
 DeclinesWords asked (WordsRefused text) = asked ≡ None
 DeclinesWords asked OutOfMemory = Unit {0}
 DeclinesWords asked outcome = ⊥
 
 -- the work of words that ask for this, or for nothing
-abbrev pub Works : Option Asked → StoreState → StoreState → Outcome → Type 0
+abbrev pub Works : Option Request → StoreState → StoreState → Outcome → Type 0
 Works None old new outcome = DeclinesWords None outcome × (new ≡ old)
 Works (Some request) old new outcome = Does request old new outcome
 
@@ -132,7 +209,7 @@ Ends (Printed text has_box) out out' err err' status = Prints text has_box out o
 Ends outcome out out' err err' status = (out' ≡ out) × Tells outcome err err' status
 
 -- a whole run
-pub record Ran (request : Option Asked) (store store' : StoreState) (out out' err err' : SinkState) (status : ℕ) : Type 0 where
+pub record Ran (request : Option Request) (store store' : StoreState) (out out' err err' : SinkState) (status : ℕ) : Type 0 where
   -- what the work came to
   pub outcome : Outcome
   pub works : Works request store store' outcome

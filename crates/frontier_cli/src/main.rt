@@ -9,6 +9,8 @@ mod lines;
 mod refusal;
 mod run;
 #[cfg(test)]
+mod solve_tests;
+#[cfg(test)]
 mod tests;
 mod work;
 

@@ -4,7 +4,7 @@ use std::alloc::Global;
 use std::test::Fail;
 
 /// Two calls at distances 3 and 4 from the start, which is also the end, and 5 from each other.
-const TWO_CALLS: &str = "10 1\n0 0 0\n0 0 0\n3 0 5\n0 4 7\n";
+pub(crate) const TWO_CALLS: &str = "10 1\n0 0 0\n0 0 0\n3 0 5\n0 4 7\n";
 
 /// The first lines of the certificates of that instance.
 const HEAD: &str =
@@ -16,7 +16,7 @@ const OPEN: &str = "nodes 1\nopen\nend\n";
 const CLOSED: &str =
     "nodes 19\nprofit 0\ndominated\ncount 0\nstuck box\ntime 5\ncut 0 1 0 0\ncutoff 1\nprofit 5\ndominated\ntime 7\narc 0 1\ncut 1 0 1 0 1 -2\ncutoff 1\ncut 0 1 0 0\ncutoff 1\nprofit 7\ndominated\ncut 1 0 0 0\ncutoff 1\nend\n";
 
-const POINTS: &str = "points 3\npoint 0 0 0\npoint 5 6 1\ntour 1\npoint 7 8 1\ntour 2\n";
+pub(crate) const POINTS: &str = "points 3\npoint 0 0 0\npoint 5 6 1\ntour 1\npoint 7 8 1\ntour 2\n";
 
 /// A case: an instance, the two parts of a certificate, and the status, the two parts of the report, and the error line.
 type Case<'a> = (&'a str, &'a str, &'a str, u8, &'a str, &'a str, &'a str);
@@ -226,7 +226,7 @@ const VERDICTS: &[Case<'static>] = &[
 
 const CHECK: &[&str] = &["check", "a.op", "c", "--format", "op", "--scale", "1"];
 
-fn words(alloc: Global, texts: &[&str]) -> Result<Vec<String>, Fail> {
+pub(crate) fn words(alloc: Global, texts: &[&str]) -> Result<Vec<String>, Fail> {
     let mut words = Vec::new(alloc);
     for text in texts {
         words.push(String::from_str(alloc, text)?)?;
@@ -334,10 +334,11 @@ const WORDS: &[(&[&str], u8, &str)] = &[
         2,
         "unknown command: chek\n",
     ),
+    (&["demo", "0", "301"], 2, "words\n"),
     (
-        &["solve", "a.op", "--cert", "c", "--format", "op"],
+        &["resume", "a.op", "c", "--cert", "o"],
         2,
-        "unknown command: solve\n",
+        "unknown command: resume\n",
     ),
     (&["check", "a.op", "c", "--format", "xyz"], 2, "words\n"),
 ];

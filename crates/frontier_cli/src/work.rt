@@ -1,24 +1,31 @@
 //! The work of the words, up to what is to be printed.
 
-ghost use Rattle.std.specs.Prelude.{◌≡◌, Some, Ok, take, map, string_bytes, IfOk, IfErr};
-ghost use Rattle.command_line.specs.Limits.{AreSettingsWithin};
-ghost use Rattle.command_line.specs.Requests.{check_request};
-ghost use Rattle.frontier_cli.specs.Asked.{asked_in, Check};
-ghost use Rattle.frontier_cli.specs.Files.{instance_in, IsReadAs};
-ghost use Rattle.frontier_cli.specs.Ran.{DeclinesWords, Declines, Does, Judges, LooksAt, Reads, ReportsAll, Works, refused_by};
+ghost use Rattle.std.specs.Prelude.{◌≡◌, ◌≤◌, ◌++◌, Some, Ok, take, map, string_bytes, IfOk, IfErr, OnOk};
+ghost use Rattle.command_line.specs.Limits.{AreSettingsWithin, IsBetween};
+ghost use Rattle.command_line.specs.Requests.{check_request, solve_request, request_in, request_of, Check, Solve, IsDemoWithin, IsSolveWithin, IsWithinLimits};
+ghost use Rattle.cert_text.specs.Text.{cert_text, IsCert};
+ghost use Rattle.frontier_cli.specs.Files.{demo_settings, instance_in, IsReadAs};
+ghost use Rattle.frontier_cli.specs.Ran.{DeclinesWords, Declines, Demos, Does, Generates, IsFound, IsSummary, IsTold, Judges, LooksAt, Puts, Reads, ReportsAll, Works, refused_by};
+ghost use Rattle.frontier_cli.specs.Outcome.{OutOfMemory};
 ghost use Rattle.frontier_cli.specs.Refusal.{bytes_of, outcome_of, refused, step_of};
 
 use crate::refusal::Refusal;
-use cert_text::{Cert, TextFail, read_cert};
-use command_line::{CheckCommand, Command, Settings, WordsFail, WordsRefusal, read_command};
-use edge_core::{GetFail, Store};
-use instance_files::{FileFail, read_instance};
+use cert_text::{Cert, TextFail, read_cert, write_cert};
+use command_line::{
+    CheckCommand, Command, DemoCommand, GenerateCommand, Settings, SolveCommand, WordsFail,
+    WordsRefusal, read_command,
+};
+use edge_core::{GetFail, PutFail, Store};
+use fixed_num::Scale;
+use instance_files::{FileFail, Format, read_instance};
+use instance_gen::generate;
 use orienteering::CheckFail;
 use proof_check::{Accepted, check};
-use report_text::report;
+use report_text::{Style, report, summary};
 use site_model::Instance;
 use std::alloc::Global;
 use std::thread::Threads;
+use sweep_solver::{Options, solve};
 
 /// The most bytes of an instance file.
 const INSTANCE_LIMIT: u64 = 16_777_216;
@@ -37,10 +44,28 @@ pub(crate) fn work<'a, R: Threads + Sync, S: Store>(
     words: &'a [String],
     store: &mut S,
 ) -> Result<Report, Refusal<'a>>
-    ensures { Works (asked_in (map string_bytes words.entry.now)) (S.state store.old) (S.state store.new) (outcome_of result) }
+    ensures { Works (request_in (map string_bytes words.entry.now)) (S.state store.old) (S.state store.new) (outcome_of result) }
 {
     let command = read_words(alloc, words)?;
-    check_files(rt, alloc, store, command)
+    serve(rt, alloc, store, command)
+}
+
+/// Serves a command.
+fn serve<'a, R: Threads + Sync, S: Store>(
+    rt: &R,
+    alloc: Global,
+    store: &mut S,
+    command: Command<'a>,
+) -> Result<Report, Refusal<'a>>
+    requires { IsWithinLimits (request_of command) }
+    ensures { Does (request_of command.entry) (S.state store.old) (S.state store.new) (outcome_of result) }
+{
+    match command {
+        Command::Check(command) => check_files(rt, alloc, store, command),
+        Command::Generate(command) => generated(alloc, command),
+        Command::Solve(command) => solve_file(rt, alloc, store, command),
+        Command::Demo(command) => demonstrated(rt, alloc, command),
+    }
 }
 
 /// The refusal of words.
@@ -51,19 +76,193 @@ fn declined<'a>(alloc: Global, refusal: WordsRefusal<'_>) -> Refusal<'a>
 }
 
 /// What the words ask for.
-fn read_words<'a>(alloc: Global, words: &'a [String]) -> Result<CheckCommand<'a>, Refusal<'a>>
-    ensures asked { IfOk result (λ command. asked_in (map string_bytes words.entry.now) ≡ Some (Check (check_request command))) }
-    ensures within { IfOk result (λ command. AreSettingsWithin command.settings) }
-    ensures refused { IfErr result (λ refusal. DeclinesWords (asked_in (map string_bytes words.entry.now)) (refused refusal)) }
+fn read_words<'a>(alloc: Global, words: &'a [String]) -> Result<Command<'a>, Refusal<'a>>
+    ensures asked { IfOk result (λ command. request_in (map string_bytes words.entry.now) ≡ Some (request_of command)) }
+    ensures within { IfOk result (λ command. IsWithinLimits (request_of command)) }
+    ensures refused { IfErr result (λ refusal. DeclinesWords (request_in (map string_bytes words.entry.now)) (refused refusal)) }
 {
     match read_command(alloc, words) {
-        Ok(Command::Check(command)) => Ok(command),
-        Ok(Command::Solve(_)) => Err(declined(alloc, WordsRefusal::UnknownCommand("solve"))),
-        Ok(Command::Generate(_)) => Err(declined(alloc, WordsRefusal::UnknownCommand("generate"))),
-        Ok(Command::Demo(_)) => Err(declined(alloc, WordsRefusal::UnknownCommand("demo"))),
+        Ok(command) => Ok(command),
         Err(WordsFail::Refused(refusal)) => Err(declined(alloc, refusal)),
         Err(WordsFail::Memory) => Err(Refusal::Memory),
     }
+}
+
+/// A certificate with what it accepts.
+#[derive(Drop)]
+struct Found {
+    cert: Cert,
+    accepted: Accepted,
+}
+
+/// Solves an instance, and checks the certificate. What is solved is accepted, so only memory can be wanting.
+fn find_certificate<R: Threads + Sync>(
+    rt: &R,
+    alloc: Global,
+    inst: &Instance,
+    options: Options,
+) -> Result<Found, Refusal<'static>>
+    requires { IsBetween 1 16 options.workers }
+    ensures found { IfOk result (λ f. IsFound inst.now options.labels options.nodes options.seed f.cert f.accepted) }
+    ensures memory { IfErr result (λ refusal. refused refusal ≡ OutOfMemory) }
+{
+    let Ok(cert) = solve(rt, alloc, inst, &options) else {
+        return Err(Refusal::Memory);
+    };
+    match check(rt, alloc, inst, &cert, options.labels, options.workers) {
+        Ok(accepted) => Ok(Found { cert, accepted }),
+        Err(_) => Err(Refusal::Memory),
+    }
+}
+
+/// The text of a certificate, and the report of what it proves.
+#[derive(Drop)]
+struct Solution {
+    certificate: Vec<u8>,
+    report: Report,
+}
+
+/// The text of a certificate and its report.
+fn texts_of(alloc: Global, found: &Found, settings: Settings) -> Result<Solution, Refusal<'static>>
+    ensures told { IfOk result (λ s. IsTold settings found.now.cert found.now.accepted s.certificate.items s.report.text.items s.report.has_box) }
+    ensures memory { IfErr result (λ refusal. refused refusal ≡ OutOfMemory) }
+{
+    let Ok(certificate) = write_cert(alloc, &found.cert) else {
+        return Err(Refusal::Memory);
+    };
+    let report = reported(alloc, &found.accepted, settings)?;
+    Ok(Solution {
+        certificate,
+        report,
+    })
+}
+
+/// Reads an instance, solves it, puts the certificate once it is checked, and makes its report.
+fn solve_file<'a, R: Threads + Sync, S: Store>(
+    rt: &R,
+    alloc: Global,
+    store: &mut S,
+    command: SolveCommand<'a>,
+) -> Result<Report, Refusal<'a>>
+    requires { IsSolveWithin (solve_request command) }
+    ensures { Does (Solve (solve_request command.entry)) (S.state store.old) (S.state store.new) (outcome_of result) }
+{
+    let settings = command.settings;
+    let inst = get_instance(alloc, store, command.instance, settings)?;
+    let options = Options {
+        nodes: command.nodes,
+        labels: settings.labels,
+        workers: settings.workers,
+        seed: command.seed,
+    };
+    let found = find_certificate(rt, alloc, &inst, options)?;
+    let solution = texts_of(alloc, &found, settings)?;
+    put(store, command.out, solution.certificate.as_slice())?;
+    Ok(solution.report)
+}
+
+/// Puts bytes under a name.
+fn put<'a, S: Store>(store: &mut S, name: &str, bytes: &[u8]) -> Result<(), Refusal<'a>>
+    ensures { Puts name.now bytes.now (S.state store.old) (S.state store.new) (step_of result) }
+{
+    match store.put(name, bytes) {
+        Ok(()) => Ok(()),
+        Err(PutFail::Failed) => Err(Refusal::Write),
+        Err(PutFail::Memory) => Err(Refusal::Memory),
+    }
+}
+
+/// The text of a generated instance.
+fn generated(alloc: Global, command: GenerateCommand) -> Result<Report, Refusal<'static>>
+    requires { command.calls ≤ 300 }
+    ensures { Generates command (outcome_of result) }
+{
+    match generate(alloc, command.seed, command.calls, command.format) {
+        Ok(text) => Ok(Report {
+            text,
+            has_box: false,
+        }),
+        Err(_) => Err(Refusal::Memory),
+    }
+}
+
+/// How many nodes the search of a demonstration has.
+const DEMO_NODES: u64 = 2_000;
+
+/// How the instance of a demonstration is read and checked.
+fn demo_settings(command: DemoCommand) -> Settings
+    ensures { result ≡ demo_settings command }
+{
+    Settings {
+        format: Format::Op,
+        scale: Scale::Hundred,
+        team: None,
+        labels: 1_000_000,
+        workers: command.workers,
+        style: Style::Plain,
+    }
+}
+
+/// Generates an instance and solves it, and makes the summary.
+fn demonstrated<R: Threads + Sync>(
+    rt: &R,
+    alloc: Global,
+    command: DemoCommand,
+) -> Result<Report, Refusal<'static>>
+    requires { IsDemoWithin command }
+    ensures { Demos command (outcome_of result) }
+{
+    let settings = demo_settings(command);
+    let Ok(file) = generate(alloc, command.seed, command.calls, Format::Op) else {
+        return Err(Refusal::Memory);
+    };
+    let inst = instance_of(alloc, file.as_slice(), settings)?;
+    let options = Options {
+        nodes: Some(DEMO_NODES),
+        labels: settings.labels,
+        workers: settings.workers,
+        seed: 0,
+    };
+    let found = find_certificate(rt, alloc, &inst, options)?;
+    summarised(alloc, &found, command.calls)
+}
+
+/// The summary of what a certificate proves, and the certificate behind it where a box is left.
+fn summarised(alloc: Global, found: &Found, calls: u32) -> Result<Report, Refusal<'static>>
+    ensures summary { IfOk result (λ r. IsSummary calls found.now.cert found.now.accepted r.text.items r.has_box) }
+    ensures memory { IfErr result (λ refusal. refused refusal ≡ OutOfMemory) }
+{
+    let accepted = &found.accepted;
+    let Ok(text) = summary(alloc, calls, accepted.points(), accepted.boxes()) else {
+        return Err(Refusal::Memory);
+    };
+    if accepted.boxes().is_empty() {
+        return Ok(Report {
+            text,
+            has_box: false,
+        });
+    }
+    let text = with_certificate(alloc, text, &found.cert)?;
+    Ok(Report {
+        text,
+        has_box: true,
+    })
+}
+
+/// The text with a certificate behind it.
+fn with_certificate(alloc: Global, text: Vec<u8>, cert: &Cert) -> Result<Vec<u8>, Refusal<'static>>
+    ensures text { IfOk result (λ both. both.items ≡ text.items ++ cert_text cert.now) }
+    ensures valid { OnOk result (IsCert cert.now) }
+    ensures memory { IfErr result (λ refusal. refused refusal ≡ OutOfMemory) }
+{
+    let Ok(certificate) = write_cert(alloc, cert) else {
+        return Err(Refusal::Memory);
+    };
+    let mut both = text;
+    if both.extend_from_slice(certificate.as_slice()).is_err() {
+        return Err(Refusal::Memory);
+    }
+    Ok(both)
 }
 
 /// Reads an instance and a certificate, and checks one against the other.

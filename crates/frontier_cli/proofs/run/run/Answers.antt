@@ -44,7 +44,10 @@ pub returns-in-Ok-clause-told_front : goal.returns-in-Ok-clause-told_front
 returns-in-Ok-clause-told_front g c = told.prints-front _ _ _ _ _ _ _ c.finish.ensures
 
 pub returns-in-Ok-clause-files : goal.returns-in-Ok-clause-files
-returns-in-Ok-clause-files g c = told.files_stay _ _ _ _ _ c.in-Ok.ensures
+returns-in-Ok-clause-files g c = told.files_stay_printed _ _ _ _ _ _ _ _ _ _ c.in-Ok.ensures c.finish.ensures
+
+pub returns-in-Ok-clause-answered : goal.returns-in-Ok-clause-answered
+returns-in-Ok-clause-answered g c = λ six. told.answered_printed _ _ _ _ _ c.in-Ok.ensures
 
 -- ---- a refusal is told
 
@@ -97,7 +100,12 @@ pub returns-in-Err-clause-told_front : goal.returns-in-Err-clause-told_front
 returns-in-Err-clause-told_front g c = λ _. told.tells-front _ _ _ _ c.tell.ensures
 
 pub returns-in-Err-clause-files : goal.returns-in-Err-clause-files
-returns-in-Err-clause-files g c = told.files_stay _ _ _ _ _ c.in-Err.ensures
+returns-in-Err-clause-files g c =
+    told.files_stay_told _ _ _ _ _ c.in-Err.ensures (told.tells-status _ _ _ _ c.tell.ensures) (told.refusal_is_plain c.in-Err.refusal)
+
+pub returns-in-Err-clause-answered : goal.returns-in-Err-clause-answered
+returns-in-Err-clause-answered g c =
+    told.answered_told _ _ _ _ _ c.in-Err.ensures (told.tells-status _ _ _ _ c.tell.ensures) (told.refusal_is_plain c.in-Err.refusal)
 
 pub returns-in-Err-clause-ran : goal.returns-in-Err-clause-ran
 returns-in-Err-clause-ran g c =

@@ -1,5 +1,5 @@
 use Rattle.std.proofs.lemmas.Result.{err_from_is_err_and}
-use Rattle.frontier_cli.proofs.Checks.{ended_by_words, works-asked}
+use Rattle.frontier_cli.proofs.Works.{ended_by_words, works-asked}
 use Rattle.frontier_cli.proofs.work.work.Goals as goal
 
 pub returns-in_err-command : goal.returns-in_err-command
@@ -8,4 +8,4 @@ returns-in_err-command g c =
     rw (told.1, told.2) (ended_by_words _ _ _ c.in_err-command.ensures.refused)
 
 pub returns : goal.returns
-returns g c = works-asked _ _ _ _ _ c.in_ok-command.ensures.asked c.check_files.ensures
+returns g c = works-asked _ _ _ _ _ c.in_ok-command.ensures.asked c.serve.ensures
