@@ -1,17 +1,20 @@
 use crate::run::run;
 use crate::tests::{POINTS, TWO_CALLS, words};
+use cert_text::read_cert;
 use edge_core::{MemSink, MemStore, Store};
 use std::alloc::Global;
 use std::test::Fail;
 use std::thread::Threads;
 
-/// Words that generate an instance, and its text.
-const GENERATED: &[(&[&str], &str)] = &[
+/// A case: its name, words that generate an instance, and its text.
+const GENERATED: &[(&str, &[&str], &str)] = &[
     (
+        "generated_files: op",
         &["generate", "0", "1", "--format", "op"],
         "120 2\n50 50 0\n50 50 0\n94 16 7\n",
     ),
     (
+        "generated_files: toptw",
         &["generate", "0", "1", "--format", "toptw"],
         "0 2 2 0\n0 0\n0 50 50 0 0 0 0 0 240\n1 94 16 10 7 0 0 37 97\n",
     ),
@@ -21,13 +24,13 @@ const GENERATED: &[(&[&str], &str)] = &[
 fn generated_files(rt: HostRuntime) -> Result<(), Fail> {
     let alloc = rt.alloc();
     let mut store = MemStore::new(alloc);
-    for (texts, text) in GENERATED {
+    for (name, texts, text) in GENERATED {
         let words = words(alloc, texts)?;
         let mut out = MemSink::new(alloc);
         let mut err = MemSink::new(alloc);
         let ended = run(&rt, alloc, &words, &mut store, &mut out, &mut err);
-        assert_eq!(rt; ended, 0);
-        assert_eq!(rt; out.written(), text.as_bytes());
+        assert_eq!(rt; ended, 0, "{name}");
+        assert_eq!(rt; out.written(), text.as_bytes(), "{name}");
     }
     Ok(())
 }
@@ -62,14 +65,15 @@ const WINDOWS: &str =
 
 /// Four places between tabs, with lines that end as on other systems.
 const TABS: &str =
-    "n 4\r\nm 1\r\ntmax 7.5\r\n0.0\t0.0\t0\r\n1.5\t2.0\t10\r\n3.0\t0.0\t15\r\n3.0\t4.0\t0\r\n\r\n";
+    "n\t4\r\nm\t1\r\ntmax\t7.5\r\n0.0\t0.0\t0\r\n1.5\t2.0\t10\r\n3.0\t0.0\t15\r\n3.0\t4.0\t0\r\n\r\n";
 
 const FIVE_PLACES: &str =
-    "n 5\r\nm 1\r\ntmax 7.5\r\n0.0\t0.0\t0\r\n1.5\t2.0\t10\r\n3.0\t0.0\t15\r\n3.0\t4.0\t0\r\n\r\n";
+    "n\t5\r\nm\t1\r\ntmax\t7.5\r\n0.0\t0.0\t0\r\n1.5\t2.0\t10\r\n3.0\t0.0\t15\r\n3.0\t4.0\t0\r\n\r\n";
 
-/// An instance with further words, and the status, what is printed and what is told.
-const SOLVED: &[(&str, &[&str], u8, &str, &str)] = &[
+/// A case: its name, an instance with further words, and the status, what is printed and what is told.
+const SOLVED: &[(&str, &str, &[&str], u8, &str, &str)] = &[
     (
+        "two calls",
         TWO_CALLS,
         &["--format", "op", "--scale", "1"],
         0,
@@ -77,6 +81,7 @@ const SOLVED: &[(&str, &[&str], u8, &str, &str)] = &[
         "",
     ),
     (
+        "windows_and_decimals",
         WINDOWS,
         &["--format", "toptw"],
         0,
@@ -84,6 +89,7 @@ const SOLVED: &[(&str, &[&str], u8, &str, &str)] = &[
         "",
     ),
     (
+        "top_with_tabs_and_line_ends",
         TABS,
         &["--format", "top"],
         0,
@@ -91,6 +97,7 @@ const SOLVED: &[(&str, &[&str], u8, &str, &str)] = &[
         "",
     ),
     (
+        "top_with_tabs_and_line_ends: row count",
         FIVE_PLACES,
         &["--format", "top"],
         4,
@@ -101,12 +108,12 @@ const SOLVED: &[(&str, &[&str], u8, &str, &str)] = &[
 
 #[test]
 fn solved_files(rt: HostRuntime) -> Result<(), Fail> {
-    for (instance, more, status, printed, told) in SOLVED {
+    for (name, instance, more, status, printed, told) in SOLVED {
         let mut store = store(rt.alloc(), instance)?;
         let (ended, out, err) = solve(&rt, rt.alloc(), &mut store, more)?;
-        assert_eq!(rt; err.written(), told.as_bytes());
-        assert_eq!(rt; out.written(), printed.as_bytes());
-        assert_eq!(rt; ended, *status);
+        assert_eq!(rt; err.written(), told.as_bytes(), "{name}");
+        assert_eq!(rt; out.written(), printed.as_bytes(), "{name}");
+        assert_eq!(rt; ended, *status, "{name}");
     }
     Ok(())
 }
@@ -147,28 +154,45 @@ fn forty_equal_calls(rt: HostRuntime) -> Result<(), Fail> {
     Ok(())
 }
 
-/// With one node the whole box is left, and the certificate that was put is one that `check` takes.
+/// Runs these words, and answers the status and what is printed.
+fn printed<R: Threads + Sync>(
+    rt: &R,
+    alloc: Global,
+    store: &mut MemStore,
+    texts: &[&str],
+) -> Result<(u8, MemSink), Fail> {
+    let words = words(alloc, texts)?;
+    let mut out = MemSink::new(alloc);
+    let mut err = MemSink::new(alloc);
+    let ended = run(rt, alloc, &words, store, &mut out, &mut err);
+    Ok((ended, out))
+}
+
+const STOPPED: &[&str] = &[
+    "solve", "a.op", "--cert", "p", "--format", "op", "--scale", "1", "--nodes", "1",
+];
+
+const STOPPED_CHECKED: &[&str] = &["check", "a.op", "p", "--format", "op", "--scale", "1"];
+
+/// With one node the whole box is left, and the certificate that was put has two nodes at most and is one that `check`
+/// takes.
 #[test]
-fn stopped_and_checked(rt: HostRuntime) -> Result<(), Fail> {
+fn stopped_and_resumed_as_far_as_solve(rt: HostRuntime) -> Result<(), Fail> {
     let alloc = rt.alloc();
     let mut store = store(alloc, TWO_CALLS)?;
-    let more = ["--format", "op", "--scale", "1", "--nodes", "1"];
-    let (ended, solved, _) = solve(&rt, rt.alloc(), &mut store, &more)?;
+    let (ended, solved) = printed(&rt, alloc, &mut store, STOPPED)?;
     assert_eq!(rt; ended, 3);
     assert!(rt;
         solved
             .written()
             .ends_with("boxes 1\nbox 0 12 0 10\n".as_bytes())
     );
-    let words = words(
-        alloc,
-        &["check", "a.op", "o", "--format", "op", "--scale", "1"],
-    )?;
-    let mut out = MemSink::new(alloc);
-    let mut err = MemSink::new(alloc);
-    let ended = run(&rt, alloc, &words, &mut store, &mut out, &mut err);
+    let bytes = store.get("p", u64::MAX)?;
+    let cert = read_cert(alloc, &bytes).ok().ok_or("a certificate")?;
+    assert!(rt; matches!(cert.nodes().len(), 1 | 2));
+    let (ended, checked) = printed(&rt, alloc, &mut store, STOPPED_CHECKED)?;
     assert_eq!(rt; ended, 3);
-    assert_eq!(rt; out.written(), solved.written());
+    assert_eq!(rt; checked.written(), solved.written());
     Ok(())
 }
 
@@ -203,23 +227,10 @@ fn failing_devices(rt: HostRuntime) -> Result<(), Fail> {
     Ok(())
 }
 
-/// Runs these words alone, and answers the status and what is printed.
-fn printed<R: Threads + Sync>(
-    rt: &R,
-    alloc: Global,
-    texts: &[&str],
-) -> Result<(u8, MemSink), Fail> {
-    let words = words(alloc, texts)?;
-    let mut store = MemStore::new(alloc);
-    let mut out = MemSink::new(alloc);
-    let mut err = MemSink::new(alloc);
-    let ended = run(rt, alloc, &words, &mut store, &mut out, &mut err);
-    Ok((ended, out))
-}
-
 #[test]
 fn demo_of_one_call(rt: HostRuntime) -> Result<(), Fail> {
-    let (ended, out) = printed(&rt, rt.alloc(), &["demo", "0", "1"])?;
+    let mut store = MemStore::new(rt.alloc());
+    let (ended, out) = printed(&rt, rt.alloc(), &mut store, &["demo", "0", "1"])?;
     assert_eq!(rt; ended, 0);
     let summary = "calls 1\npoints 2\nboxes 0\nprofit 7\ntime 11120\n";
     assert_eq!(rt; out.written(), summary.as_bytes());
@@ -229,8 +240,9 @@ fn demo_of_one_call(rt: HostRuntime) -> Result<(), Fail> {
 /// A larger run ends the same way twice.
 #[test]
 fn demo_of_twelve_calls_twice(rt: HostRuntime) -> Result<(), Fail> {
-    let (ended, first) = printed(&rt, rt.alloc(), &["demo", "5", "12"])?;
-    let (again, second) = printed(&rt, rt.alloc(), &["demo", "5", "12"])?;
+    let mut store = MemStore::new(rt.alloc());
+    let (ended, first) = printed(&rt, rt.alloc(), &mut store, &["demo", "5", "12"])?;
+    let (again, second) = printed(&rt, rt.alloc(), &mut store, &["demo", "5", "12"])?;
     assert_eq!(rt; ended, again);
     assert!(rt; first.written().starts_with("calls 12\n".as_bytes()));
     assert!(rt; first.written() == second.written());
