@@ -611,6 +611,24 @@ fn options_and_words(rt: HostRuntime) -> Result<(), Fail> {
     Ok(())
 }
 
+/// A file of the most bytes is read, its last line being blank, and one of one byte more is refused for its length.
+#[test]
+fn refused_words_and_long_file(rt: HostRuntime) -> Result<(), Fail> {
+    let alloc = rt.alloc();
+    let words = words(alloc, CHECK)?;
+    for (length, status, told) in [(16_777_216, 3, ""), (16_777_217, 9, "instance: too long\n")] {
+        let mut instance = Vec::from_slice(alloc, TWO_CALLS.as_bytes())?;
+        instance.resize(length, b' ')?;
+        let mut store = store(alloc, &instance, &joined(alloc, HEAD, OPEN)?)?;
+        let mut out = MemSink::new(alloc);
+        let mut err = MemSink::new(alloc);
+        let ended = run(&rt, alloc, &words, &mut store, &mut out, &mut err);
+        assert_eq!(rt; err.written(), told.as_bytes(), "{length} bytes");
+        assert_eq!(rt; ended, status, "{length} bytes");
+    }
+    Ok(())
+}
+
 /// A check whose first or second read fails prints nothing.
 #[test]
 fn failing_devices_of_reads(rt: HostRuntime) -> Result<(), Fail> {
