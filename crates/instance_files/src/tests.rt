@@ -92,214 +92,215 @@ fn decimals_and_floored_lengths(rt: HostRuntime) {
     assert!(rt; failure(rt.alloc(), Format::Op, bytes) == wanted);
 }
 
+/// A case: a file, and the line and the cause of its refusal, with line 0 where it is an instance.
+type Case<'a> = (&'a [u8], u64, FileCause);
+
+/// What is told of a case.
+fn wanted(line: u64, cause: FileCause) -> Option<FileFail> {
+    if line == 0 {
+        return None;
+    }
+    Some(FileFail::Refused { line, cause })
+}
+
+/// Cases of files of the profile `op`.
+const OP_CAUSES: &[Case<'static>] = &[
+    (b"", 1, FileCause::Head),
+    (b"\n \t\r\n\r", 4, FileCause::Head),
+    (b"\n10\n", 2, FileCause::Head),
+    (b"10 1 2\n", 1, FileCause::Head),
+    (b"1x 0\n", 1, FileCause::Number),
+    (b"10 1\r1\n", 1, FileCause::Number),
+    (
+        b"10 00000000000000000000000000000000000000001\n",
+        1,
+        FileCause::Number,
+    ),
+    (b"-1 1\n", 1, FileCause::OutOfRange),
+    (b"100000001 1\n", 1, FileCause::OutOfRange),
+    (b"10 1000000000\n", 1, FileCause::OutOfRange),
+    (b"10 0\n", 1, FileCause::Team),
+    (b"10 33\n", 1, FileCause::Team),
+    (b"10 1.5\n", 1, FileCause::Team),
+    (b"10 1\n\n0 0\n", 3, FileCause::Fields),
+    (b"10 1\n0 0 0\n0 0 0 0\n", 3, FileCause::Fields),
+    (
+        b"10 1\n0 0 0\n0 0 0\n1 2 3 4 5 6 7 8 9\n",
+        4,
+        FileCause::Fields,
+    ),
+    (b"10 1\n+ 0 0\n", 2, FileCause::Number),
+    (b"10 1\n0 y 0\n", 2, FileCause::Number),
+    (b"10 1\n0 0 x\n0 0 y\n0 0 z\n", 4, FileCause::Number),
+    (b"10 1\n100000.0001 0 0\n", 2, FileCause::OutOfRange),
+    (b"10 1\n0 -100001 0\n", 2, FileCause::OutOfRange),
+    (
+        b"10 1\n0 0 0\n0 0 0\n0 0 1000000000\n",
+        4,
+        FileCause::OutOfRange,
+    ),
+    (
+        b"10 1\n0 0 0\n0 0 0\n0 0 1\n\n0 0 -1\n",
+        6,
+        FileCause::Score,
+    ),
+    (b"10 1\n0 0 0\n0 0 0\n0 0 100001\n", 4, FileCause::Score),
+    (b"10 1\n0 0 0\n0 0 0\n0 0 1.00001\n", 4, FileCause::Score),
+    (b"10 1\n0 100001 0\n0 x 0\n", 2, FileCause::OutOfRange),
+    (b"10 1", 2, FileCause::RowCount),
+    (b"10 1\n0 0 0", 3, FileCause::RowCount),
+    (b"10 1\n0 0 0\n", 3, FileCause::RowCount),
+    (b"10 1\n0 0 0\n\n\n", 5, FileCause::RowCount),
+];
+
 #[test]
 fn each_cause_in_op(rt: HostRuntime) {
-    let cases: [(&[u8], u64, FileCause); 30] = [
-        (b"", 1, FileCause::Head),
-        (b"\n \t\r\n\r", 4, FileCause::Head),
-        (b"\n10\n", 2, FileCause::Head),
-        (b"10 1 2\n", 1, FileCause::Head),
-        (b"1x 0\n", 1, FileCause::Number),
-        (b"10 1\r1\n", 1, FileCause::Number),
-        (
-            b"10 00000000000000000000000000000000000000001\n",
-            1,
-            FileCause::Number,
-        ),
-        (b"-1 1\n", 1, FileCause::OutOfRange),
-        (b"100000001 1\n", 1, FileCause::OutOfRange),
-        (b"10 1000000000\n", 1, FileCause::OutOfRange),
-        (b"10 0\n", 1, FileCause::Team),
-        (b"10 33\n", 1, FileCause::Team),
-        (b"10 1.5\n", 1, FileCause::Team),
-        (b"10 1\n\n0 0\n", 3, FileCause::Fields),
-        (b"10 1\n0 0 0\n0 0 0 0\n", 3, FileCause::Fields),
-        (
-            b"10 1\n0 0 0\n0 0 0\n1 2 3 4 5 6 7 8 9\n",
-            4,
-            FileCause::Fields,
-        ),
-        (b"10 1\n+ 0 0\n", 2, FileCause::Number),
-        (b"10 1\n0 y 0\n", 2, FileCause::Number),
-        (b"10 1\n0 0 x\n0 0 y\n0 0 z\n", 4, FileCause::Number),
-        (b"10 1\n100000.0001 0 0\n", 2, FileCause::OutOfRange),
-        (b"10 1\n0 -100001 0\n", 2, FileCause::OutOfRange),
-        (
-            b"10 1\n0 0 0\n0 0 0\n0 0 1000000000\n",
-            4,
-            FileCause::OutOfRange,
-        ),
-        (
-            b"10 1\n0 0 0\n0 0 0\n0 0 1\n\n0 0 -1\n",
-            6,
-            FileCause::Score,
-        ),
-        (b"10 1\n0 0 0\n0 0 0\n0 0 100001\n", 4, FileCause::Score),
-        (b"10 1\n0 0 0\n0 0 0\n0 0 1.00001\n", 4, FileCause::Score),
-        (b"10 1\n0 100001 0\n0 x 0\n", 2, FileCause::OutOfRange),
-        (b"10 1", 2, FileCause::RowCount),
-        (b"10 1\n0 0 0", 3, FileCause::RowCount),
-        (b"10 1\n0 0 0\n", 3, FileCause::RowCount),
-        (b"10 1\n0 0 0\n\n\n", 5, FileCause::RowCount),
-    ];
-    for (bytes, line, cause) in cases {
-        assert!(rt;
-            failure(rt.alloc(), Format::Op, bytes) == Some(FileFail::Refused { line, cause }),
-            "at {line}"
-        );
+    for (bytes, line, cause) in OP_CAUSES {
+        let told = failure(rt.alloc(), Format::Op, bytes);
+        assert!(rt; told == wanted(*line, *cause), "at {line}");
     }
 }
+
+/// Cases of files of the profile `top`.
+const TOP_CAUSES: &[Case<'static>] = &[
+    (b"", 1, FileCause::Head),
+    (b"n 4 5\n", 1, FileCause::Head),
+    (b"N 4\n", 1, FileCause::Head),
+    (b"n\n", 1, FileCause::Head),
+    (b"n x\n", 1, FileCause::Number),
+    (b"n 1000000000\n", 1, FileCause::OutOfRange),
+    (b"n 2.5\n", 1, FileCause::Head),
+    (b"n -3\n", 1, FileCause::Head),
+    (b"n 1\n", 1, FileCause::Head),
+    (b"n 303\n", 1, FileCause::TooMany),
+    (b"n 302\n", 2, FileCause::Head),
+    (b"n 2\n\ntmax 9\n", 3, FileCause::Head),
+    (b"n 2\nm\n", 2, FileCause::Head),
+    (b"n 2\nm 1e1\n", 2, FileCause::Number),
+    (b"n 2\nm 9999999999\n", 2, FileCause::OutOfRange),
+    (b"n 2\nm 0\n", 2, FileCause::Team),
+    (b"n 2\nm 1\n", 3, FileCause::Head),
+    (b"n 2\nm 1\ntma 9\n", 3, FileCause::Head),
+    (b"n 2\nm 1\ntmax 9 9\n", 3, FileCause::Head),
+    (b"n 2\nm 1\ntmax -\n", 3, FileCause::Number),
+    (b"n 2\nm 1\ntmax -1\n", 3, FileCause::OutOfRange),
+    (b"n 2\nm 1\ntmax 9\n0 0\n", 4, FileCause::Fields),
+    (
+        b"n 2\nm 1\ntmax 9\n0 0 0\n0 0 0 0 0 0 0 0\n",
+        5,
+        FileCause::Fields,
+    ),
+    (b"n 2\nm 1\ntmax 9\n0 0,5 0\n", 4, FileCause::Number),
+    (b"n 3\nm 1\ntmax 9\n0 0 x\n0 0 x\n", 5, FileCause::Number),
+    (b"n 2\nm 1\ntmax 9\n-100001 0 0\n", 4, FileCause::OutOfRange),
+    (
+        b"n 3\nm 1\ntmax 9\n0 0 0\n0 0 1000000000\n",
+        5,
+        FileCause::OutOfRange,
+    ),
+    (b"n 3\nm 1\ntmax 9\n0 0 0\n0 0 0.5\n", 5, FileCause::Score),
+    (b"n 3\nm 1\ntmax 9\n0 0 0\n0 0 1\n0 0 x", 0, FileCause::Head),
+    (
+        b"n 2\nm 1\ntmax 9\n0 0 0\n1 1 0\nx\n",
+        6,
+        FileCause::RowCount,
+    ),
+    (b"n 2\nm 1\ntmax 9", 4, FileCause::RowCount),
+    (b"n 2\nm 1\ntmax 9\n0 0 0\n\n", 6, FileCause::RowCount),
+    (
+        b"n\t5\r\nm\t1\r\ntmax\t7.5\r\n0.0\t0.0\t0\r\n1.5\t2.0\t10\r\n3.0\t0.0\t15\r\n3.0\t4.0\t0\r\n\r\n",
+        9,
+        FileCause::RowCount,
+    ),
+    (b"n 2\r\r\n", 1, FileCause::Number),
+    (b"\t\nn 2 \r\n \r\nm 40", 4, FileCause::Team),
+];
 
 #[test]
 fn each_cause_in_top(rt: HostRuntime) {
-    let cases: [(&[u8], u64, FileCause); 35] = [
-        (b"", 1, FileCause::Head),
-        (b"n 4 5\n", 1, FileCause::Head),
-        (b"N 4\n", 1, FileCause::Head),
-        (b"n\n", 1, FileCause::Head),
-        (b"n x\n", 1, FileCause::Number),
-        (b"n 1000000000\n", 1, FileCause::OutOfRange),
-        (b"n 2.5\n", 1, FileCause::Head),
-        (b"n -3\n", 1, FileCause::Head),
-        (b"n 1\n", 1, FileCause::Head),
-        (b"n 303\n", 1, FileCause::TooMany),
-        (b"n 302\n", 2, FileCause::Head),
-        (b"n 2\n\ntmax 9\n", 3, FileCause::Head),
-        (b"n 2\nm\n", 2, FileCause::Head),
-        (b"n 2\nm 1e1\n", 2, FileCause::Number),
-        (b"n 2\nm 9999999999\n", 2, FileCause::OutOfRange),
-        (b"n 2\nm 0\n", 2, FileCause::Team),
-        (b"n 2\nm 1\n", 3, FileCause::Head),
-        (b"n 2\nm 1\ntma 9\n", 3, FileCause::Head),
-        (b"n 2\nm 1\ntmax 9 9\n", 3, FileCause::Head),
-        (b"n 2\nm 1\ntmax -\n", 3, FileCause::Number),
-        (b"n 2\nm 1\ntmax -1\n", 3, FileCause::OutOfRange),
-        (b"n 2\nm 1\ntmax 9\n0 0\n", 4, FileCause::Fields),
-        (
-            b"n 2\nm 1\ntmax 9\n0 0 0\n0 0 0 0 0 0 0 0\n",
-            5,
-            FileCause::Fields,
-        ),
-        (b"n 2\nm 1\ntmax 9\n0 0,5 0\n", 4, FileCause::Number),
-        (b"n 3\nm 1\ntmax 9\n0 0 x\n0 0 x\n", 5, FileCause::Number),
-        (b"n 2\nm 1\ntmax 9\n-100001 0 0\n", 4, FileCause::OutOfRange),
-        (
-            b"n 3\nm 1\ntmax 9\n0 0 0\n0 0 1000000000\n",
-            5,
-            FileCause::OutOfRange,
-        ),
-        (b"n 3\nm 1\ntmax 9\n0 0 0\n0 0 0.5\n", 5, FileCause::Score),
-        (b"n 3\nm 1\ntmax 9\n0 0 0\n0 0 1\n0 0 x", 0, FileCause::Head),
-        (
-            b"n 2\nm 1\ntmax 9\n0 0 0\n1 1 0\nx\n",
-            6,
-            FileCause::RowCount,
-        ),
-        (b"n 2\nm 1\ntmax 9", 4, FileCause::RowCount),
-        (b"n 2\nm 1\ntmax 9\n0 0 0\n\n", 6, FileCause::RowCount),
-        (
-            b"n\t5\r\nm\t1\r\ntmax\t7.5\r\n0.0\t0.0\t0\r\n1.5\t2.0\t10\r\n3.0\t0.0\t15\r\n3.0\t4.0\t0\r\n\r\n",
-            9,
-            FileCause::RowCount,
-        ),
-        (b"n 2\r\r\n", 1, FileCause::Number),
-        (b"\t\nn 2 \r\n \r\nm 40", 4, FileCause::Team),
-    ];
-    for (bytes, line, cause) in cases {
-        let wanted = if line == 0 {
-            None
-        } else {
-            Some(FileFail::Refused { line, cause })
-        };
-        assert!(rt;
-            failure(rt.alloc(), Format::Top, bytes) == wanted,
-            "at {line}"
-        );
+    for (bytes, line, cause) in TOP_CAUSES {
+        let told = failure(rt.alloc(), Format::Top, bytes);
+        assert!(rt; told == wanted(*line, *cause), "at {line}");
     }
 }
 
+/// Cases of files of the profile `toptw`.
+const TOPTW_CAUSES: &[Case<'static>] = &[
+    (b"", 1, FileCause::Head),
+    (b"\n5\n", 2, FileCause::Head),
+    (b"0 1\n", 2, FileCause::Head),
+    (b"0 1 9 9\n\n \n", 4, FileCause::Head),
+    (b"z 1..\n", 1, FileCause::Number),
+    (b"0 1000000000\n", 1, FileCause::OutOfRange),
+    (b"0 0 9 9\n", 1, FileCause::Team),
+    (b"0 32.0 9 9\nx\n", 3, FileCause::RowCount),
+    (b"0 1\nx", 3, FileCause::RowCount),
+    (b"0 1\nx\n0 0 0 0 0 5\n", 3, FileCause::Fields),
+    (b"0 1\nx\n0 0 0 0 0 0 5\n0 0 0\n", 4, FileCause::Fields),
+    (b"0 1\nx\nz x 0 0 0 0 5\n", 3, FileCause::Number),
+    (b"0 1\nx\n0 0 x 0 0 0 5\n", 3, FileCause::Number),
+    (
+        b"0 1\nx\n0 0 0 x x 0 5\n0 0 0 x 0 0 5\n",
+        4,
+        FileCause::Number,
+    ),
+    (
+        b"0 1\nx\n0 0 0 x x 0 5\n0 0 0 0 x 0 5\n",
+        4,
+        FileCause::Number,
+    ),
+    (b"0 1\nx\n0 0 0 0 0 x 5\n", 3, FileCause::Number),
+    (b"0 1\nx\n0 0 0 0 0 9 x\n", 3, FileCause::Number),
+    (
+        b"0 1\nx\n0 100000.0001 0 0 0 0 5\n",
+        3,
+        FileCause::OutOfRange,
+    ),
+    (b"0 1\nx\n0 0 -100001 0 0 0 5\n", 3, FileCause::OutOfRange),
+    (
+        b"0 1\nx\n0 0 0 0 0 0 5\n0 0 0 -1 0 0 5\n",
+        4,
+        FileCause::OutOfRange,
+    ),
+    (
+        b"0 1\nx\n0 0 0 0 0 0 5\n0 0 0 0 1000000000 0 5\n",
+        4,
+        FileCause::OutOfRange,
+    ),
+    (b"0 1\nx\n0 0 0 0 0 -0.0001 5\n", 3, FileCause::OutOfRange),
+    (b"0 1\nx\n0 0 0 0 0 9 100000001\n", 3, FileCause::OutOfRange),
+    (b"0 1\nx\n0 0 0 0 0 9 -1\n", 3, FileCause::OutOfRange),
+    (
+        b"0 1\nx\n0 0 0 0 0 0 5\n0 0 0 0 0.5 9 5\n",
+        4,
+        FileCause::Score,
+    ),
+    (
+        b"0 1\nx\n0 0 0 0 0 0 5\n0 0 0 0 -1 9 5\n",
+        4,
+        FileCause::Score,
+    ),
+    (b"0 1\nx\n0 0 0 0 0 5 4\n", 3, FileCause::Window),
+    (b"0 1\nx\n0 0 0 0 0 5.5 5.4\n", 3, FileCause::Window),
+    (
+        b"0 1\nx\n0 0 0 0 0 0 9\n\n0 0 0 0 0 z z z 9 0\n",
+        5,
+        FileCause::Window,
+    ),
+    (b"0 1\nx\n0 0 0 0 0 5.00009 5\n", 0, FileCause::Window),
+    (
+        b"0 1\nx\n0 0 0 0 0 z z z 0 9\r\n0\t0\t0\t0\t0\t0\t0\r\n",
+        0,
+        FileCause::Window,
+    ),
+    (b"0 1\nx\n0 0 0 x -1 0 9", 0, FileCause::Score),
+];
+
 #[test]
 fn each_cause_in_toptw(rt: HostRuntime) {
-    let cases: [(&[u8], u64, FileCause); 32] = [
-        (b"", 1, FileCause::Head),
-        (b"\n5\n", 2, FileCause::Head),
-        (b"0 1\n", 2, FileCause::Head),
-        (b"0 1 9 9\n\n \n", 4, FileCause::Head),
-        (b"z 1..\n", 1, FileCause::Number),
-        (b"0 1000000000\n", 1, FileCause::OutOfRange),
-        (b"0 0 9 9\n", 1, FileCause::Team),
-        (b"0 32.0 9 9\nx\n", 3, FileCause::RowCount),
-        (b"0 1\nx", 3, FileCause::RowCount),
-        (b"0 1\nx\n0 0 0 0 0 5\n", 3, FileCause::Fields),
-        (b"0 1\nx\n0 0 0 0 0 0 5\n0 0 0\n", 4, FileCause::Fields),
-        (b"0 1\nx\nz x 0 0 0 0 5\n", 3, FileCause::Number),
-        (b"0 1\nx\n0 0 x 0 0 0 5\n", 3, FileCause::Number),
-        (
-            b"0 1\nx\n0 0 0 x x 0 5\n0 0 0 x 0 0 5\n",
-            4,
-            FileCause::Number,
-        ),
-        (
-            b"0 1\nx\n0 0 0 x x 0 5\n0 0 0 0 x 0 5\n",
-            4,
-            FileCause::Number,
-        ),
-        (b"0 1\nx\n0 0 0 0 0 x 5\n", 3, FileCause::Number),
-        (b"0 1\nx\n0 0 0 0 0 9 x\n", 3, FileCause::Number),
-        (
-            b"0 1\nx\n0 100000.0001 0 0 0 0 5\n",
-            3,
-            FileCause::OutOfRange,
-        ),
-        (b"0 1\nx\n0 0 -100001 0 0 0 5\n", 3, FileCause::OutOfRange),
-        (
-            b"0 1\nx\n0 0 0 0 0 0 5\n0 0 0 -1 0 0 5\n",
-            4,
-            FileCause::OutOfRange,
-        ),
-        (
-            b"0 1\nx\n0 0 0 0 0 0 5\n0 0 0 0 1000000000 0 5\n",
-            4,
-            FileCause::OutOfRange,
-        ),
-        (b"0 1\nx\n0 0 0 0 0 -0.0001 5\n", 3, FileCause::OutOfRange),
-        (b"0 1\nx\n0 0 0 0 0 9 100000001\n", 3, FileCause::OutOfRange),
-        (b"0 1\nx\n0 0 0 0 0 9 -1\n", 3, FileCause::OutOfRange),
-        (
-            b"0 1\nx\n0 0 0 0 0 0 5\n0 0 0 0 0.5 9 5\n",
-            4,
-            FileCause::Score,
-        ),
-        (
-            b"0 1\nx\n0 0 0 0 0 0 5\n0 0 0 0 -1 9 5\n",
-            4,
-            FileCause::Score,
-        ),
-        (b"0 1\nx\n0 0 0 0 0 5 4\n", 3, FileCause::Window),
-        (b"0 1\nx\n0 0 0 0 0 5.5 5.4\n", 3, FileCause::Window),
-        (
-            b"0 1\nx\n0 0 0 0 0 0 9\n\n0 0 0 0 0 z z z 9 0\n",
-            5,
-            FileCause::Window,
-        ),
-        (b"0 1\nx\n0 0 0 0 0 5.00009 5\n", 0, FileCause::Window),
-        (
-            b"0 1\nx\n0 0 0 0 0 z z z 0 9\r\n0\t0\t0\t0\t0\t0\t0\r\n",
-            0,
-            FileCause::Window,
-        ),
-        (b"0 1\nx\n0 0 0 x -1 0 9", 0, FileCause::Score),
-    ];
-    for (bytes, line, cause) in cases {
-        let wanted = if line == 0 {
-            None
-        } else {
-            Some(FileFail::Refused { line, cause })
-        };
-        assert!(rt;
-            failure(rt.alloc(), Format::Toptw, bytes) == wanted,
-            "at {line}"
-        );
+    for (bytes, line, cause) in TOPTW_CAUSES {
+        let told = failure(rt.alloc(), Format::Toptw, bytes);
+        assert!(rt; told == wanted(*line, *cause), "at {line}");
     }
 }
 
