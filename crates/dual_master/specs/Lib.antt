@@ -1,0 +1,4 @@
+pub mod Sigma
+pub mod Shares
+pub mod Candidate
+pub mod Search
