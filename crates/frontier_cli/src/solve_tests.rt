@@ -154,6 +154,26 @@ fn forty_equal_calls(rt: HostRuntime) -> Result<(), Fail> {
     Ok(())
 }
 
+/// Ten calls that each make a tour of their own, two at once: prices of calls show that the best two are the best plan.
+#[test]
+fn ten_single_call_tours(rt: HostRuntime) -> Result<(), Fail> {
+    let alloc = rt.alloc();
+    let mut text = String::from_str(alloc, "0 2 10 0\n0 0\n0 0 0 0 0 0 0 0 10\n")?;
+    text.push_str("1 3 0 1 9 0 0 3 3\n")?;
+    for number in ["2", "3", "4", "5", "6", "7", "8", "9", "10"] {
+        text.push_str(number)?;
+        text.push_str(" 3 0 1 5 0 0 3 3\n")?;
+    }
+    let mut store = store(alloc, text.as_str())?;
+    let more = ["--format", "toptw", "--scale", "1", "--nodes", "100"];
+    let (ended, out, _) = solve(&rt, alloc, &mut store, &more)?;
+    assert_eq!(rt; ended, 0);
+    let begin = "points 3\npoint 0 0 0\npoint 9 6 1\ntour 1\npoint 14 12 2\ntour ";
+    assert!(rt; out.written().starts_with(begin.as_bytes()));
+    assert!(rt; out.written().ends_with("\nboxes 0\n".as_bytes()));
+    Ok(())
+}
+
 /// Runs these words, and answers the status and what is printed.
 fn printed<R: Threads + Sync>(
     rt: &R,

@@ -28,7 +28,7 @@ fn are_calls(n: u32, critical: &[u32]) -> bool
 }
 
 /// Whether these are strictly rising calls among n, and not too many.
-pub(crate) fn is_critical_set(n: u32, critical: &[u32]) -> bool
+pub fn is_critical_set(n: u32, critical: &[u32]) -> bool
     ensures { result ≡ is_critical_set n critical.now }
 {
     rises(critical) && are_calls(n, critical) && critical.len() <= MOST_CRITICAL

@@ -19,5 +19,6 @@ mod verdict;
 mod walk;
 
 pub use acceptance::Accepted;
+pub use critical::is_critical_set;
 pub use orienteering::{CheckFail, NodeCause, PointWhy};
 pub use verdict::check;

@@ -13,7 +13,6 @@ use Rattle.orienteering.specs.Decide.{decide, decide_tree, boxes_left, is_for, k
 use Rattle.orienteering.specs.Certificate.{Certificate, Acceptance}
 use Rattle.orienteering.specs.declared.CheckFail.{CheckFail}
 use Rattle.orienteering.specs.declared.CheckFail.TheVariants.{OtherInstance, Shape}
-use Rattle.orienteering.specs.declared.Listed.{Listed}
 use Rattle.orienteering.specs.declared.Node.{Node}
 use Rattle.orienteering.specs.declared.Node.TheVariants.{Profit, Time, Count, Arc, Cut, Dominated, Cutoff, Stuck, Left}
 use Rattle.orienteering.specs.declared.Step.{Step}

@@ -6,3 +6,4 @@ pub mod Accepted
 pub mod Starts
 pub mod Boxes
 pub mod Solving
+pub mod Trees

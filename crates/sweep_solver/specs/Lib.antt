@@ -3,3 +3,4 @@ pub mod Rules
 pub mod Narrowing
 pub mod Weights
 pub mod Solved
+pub mod Trees

@@ -1,13 +1,14 @@
 //! A certificate that is grown from one open node and starting plans.
 
-ghost use Rattle.std.specs.Prelude.{◌≡◌, ◌∷◌, [], IfOk};
-ghost use Rattle.growth.specs.Growth.{IsArchive};
+ghost use Rattle.std.specs.Prelude.{◌≡◌, ◌∷◌, [], true, IfOk};
+ghost use Rattle.growth.specs.Growth.{Improves, IsArchive};
 ghost use Rattle.orienteering.specs.Instance.{calls};
 ghost use Rattle.orienteering.specs.declared.Node.TheVariants.{Left};
 ghost use Rattle.sweep_solver.specs.Solved.{CoversPlans, IsAccepted, KeepsBudget};
+ghost use Rattle.sweep_solver.specs.Trees.{IsClosedWithin, IsTreeWithin};
 
 use crate::regions::Regions;
-use crate::strategy::PlainStrategy;
+use crate::strategy::PricedStrategy;
 use crate::world::offer;
 use cert_text::Cert;
 use front_archive::Archive;
@@ -65,6 +66,88 @@ fn certificate_of(
     ))
 }
 
+/// Offers all these lists of tours to the archive.
+#[tactic(auto, using(growth::proofs::Archives::improves_same))]
+fn offer_all(
+    alloc: Global,
+    inst: &Instance,
+    archive: &mut Archive,
+    plans: Vec<Plan>,
+) -> Result<(), AllocError>
+    requires archive { IsArchive inst.now archive.old }
+    ensures archive { IsArchive inst.now archive.new }
+    ensures improved { Improves archive.old archive.new }
+{
+    for plan in plans {
+        offer(alloc, inst, archive, plan)?;
+    }
+    Ok(())
+}
+
+/// A strategy that has learned the tours of the archive. The better plans that they make together are in the archive then.
+#[tactic(auto, using(growth::proofs::Archives::improves_same))]
+fn begun(
+    alloc: Global,
+    regions: &Regions<'_>,
+    archive: &mut Archive,
+) -> Result<PricedStrategy, AllocError>
+    requires archive { IsArchive regions.now.inst.now archive.old }
+    ensures archive { IsArchive regions.now.inst.now archive.new }
+    ensures improved { Improves archive.old archive.new }
+{
+    let root = Context::root(alloc, regions.inst)?;
+    let mut strategy = PricedStrategy::new(alloc, root.raw())?;
+    let plans = strategy.begin(alloc, regions, archive)?;
+    offer_all(alloc, regions.inst, archive, plans)?;
+    Ok(strategy)
+}
+
+/// Grows the open nodes of a tree. Where not all of them must be closed, boxes that need arcs are put off.
+#[tactic(auto, using(growth::proofs::Archives::improves_same))]
+fn grow_round(
+    alloc: Global,
+    regions: &Regions<'_>,
+    archive: &mut Archive,
+    strategy: &mut PricedStrategy,
+    must: bool,
+    nodes: Vec<Node>,
+    limit: Option<u64>,
+) -> Result<Vec<Node>, AllocError>
+    requires archive { IsArchive regions.now.inst.now archive.old }
+    requires tree { IsTreeWithin regions.now.inst.now regions.now.labels archive.old limit nodes.items }
+    ensures archive { IsArchive regions.now.inst.now archive.new }
+    ensures improved { Improves archive.old archive.new }
+    ensures tree { IfOk result (λ grown. IsTreeWithin regions.now.inst.now regions.now.labels archive.new limit grown.items) }
+    ensures closed { IfOk result (λ grown. IsClosedWithin must limit grown.items) }
+{
+    strategy.puts_off = !must;
+    let root = Context::root(alloc, regions.inst)?;
+    grow_certificate(alloc, regions, archive, strategy, must, root, nodes, limit)
+}
+
+/// A tree that is grown from one open node. With a budget the boxes that need no arcs come first.
+#[tactic(auto, using(growth::proofs::Archives::improves_same))]
+fn grown_tree(
+    alloc: Global,
+    regions: &Regions<'_>,
+    archive: &mut Archive,
+    limit: Option<u64>,
+) -> Result<Vec<Node>, AllocError>
+    requires archive { IsArchive regions.now.inst.now archive.old }
+    ensures archive { IsArchive regions.now.inst.now archive.new }
+    ensures improved { Improves archive.old archive.new }
+    ensures tree { IfOk result (λ grown. IsTreeWithin regions.now.inst.now regions.now.labels archive.new limit grown.items) }
+    ensures closed { IfOk result (λ grown. IsClosedWithin true limit grown.items) }
+{
+    let mut strategy = begun(alloc, regions, archive)?;
+    let tree = open_tree(alloc)?;
+    if limit.is_none() {
+        return grow_round(alloc, regions, archive, &mut strategy, true, tree, limit);
+    }
+    let begun = grow_round(alloc, regions, archive, &mut strategy, false, tree, limit)?;
+    grow_round(alloc, regions, archive, &mut strategy, true, begun, limit)
+}
+
 /// A certificate of the instance that the checker accepts where a replay may keep `labels` undominated states. Its points
 /// are the best that were found; each starting plan is weakly dominated by one of them. With a budget of `nodes`
 /// the search stops once there are so many, and the certificate has at most one more; without one it closes every box,
@@ -82,17 +165,6 @@ pub(crate) fn solve_from(
 {
     let mut archive = archive_of(alloc, inst, starts)?;
     let regions = Regions { inst, labels };
-    let root = Context::root(alloc, inst)?;
-    let tree = open_tree(alloc)?;
-    let grown = grow_certificate(
-        alloc,
-        &regions,
-        &mut archive,
-        &mut PlainStrategy::new(),
-        true,
-        root,
-        tree,
-        nodes,
-    )?;
+    let grown = grown_tree(alloc, &regions, &mut archive, nodes)?;
     certificate_of(alloc, inst, &archive, grown)
 }
