@@ -27,6 +27,7 @@ mod search;
 mod strategy;
 #[cfg(test)]
 mod tests;
+mod trials;
 mod world;
 
 pub use options::{Options, solve};

@@ -2,7 +2,7 @@
 //! Where its value is above 0, one price leaves out all of the corners, as far as the tours tell (Dantzig and Wolfe 1960).
 
 use crate::fixed::Fixed;
-use crate::program::{Program, Row, Slack};
+use crate::program::{Basis, Program, Row, Slack};
 use orienteering::{Box2, Entries, Point, Price};
 use region_ctx::Context;
 use std::alloc::{AllocError, Global};
@@ -21,6 +21,15 @@ const MOST_PRICE: i64 = 100_000_000_000_000_000;
 
 /// A value that is greater than any time or profit.
 const MOST_VALUE: i64 = 1_000_000_000;
+
+/// The most tours that branchings are tried on.
+const MOST_NEAR: usize = 400;
+
+/// The most steps of a trial.
+const MOST_TRIAL_STEPS: u32 = 100;
+
+/// How many columns stand before that of the first call, less one.
+const BEFORE_CALLS: usize = 4;
 
 fn whole(value: u64) -> i64 {
     value.min(MOST_VALUE as u64) as i64
@@ -138,6 +147,75 @@ impl Master {
     pub fn solve(&mut self, alloc: Global) -> Result<i64, AllocError> {
         self.program.solve(alloc)?;
         Ok(self.program.cost().whole(PARTS))
+    }
+
+    /// The basis of the solution, to go back to.
+    pub fn basis(&self, alloc: Global) -> Result<Basis, AllocError> {
+        self.program.basis(alloc)
+    }
+
+    /// The places of the tours that are in the solution or near it: those that raise the value by at most so many parts.
+    pub fn near_places(&self, alloc: Global, most: i64) -> Result<Vec<u64>, AllocError> {
+        let mut places = Vec::new(alloc);
+        for (low, high) in [(i64::MIN, 1), (1, most)] {
+            for (column, place) in self.tours.iter() {
+                let cost = self.program.reduced_cost(*column).whole(PARTS);
+                if low < cost && cost <= high && places.len() < MOST_NEAR {
+                    places.push(*place)?;
+                }
+            }
+        }
+        Ok(places)
+    }
+
+    /// The columns of the tours with their places, in the order in which they were added.
+    pub fn tours(&self) -> &[(usize, u64)] {
+        self.tours.as_slice()
+    }
+
+    /// Which columns are banned where these tours are lost, in the order in which they were added, and these calls visited.
+    pub fn bans(
+        &self,
+        alloc: Global,
+        lost: &[bool],
+        visited: &[u32],
+    ) -> Result<Vec<bool>, AllocError> {
+        let mut bans = vec![in alloc; false; self.program.columns()]?;
+        for ((column, _), is_lost) in self.tours.iter().zip(lost.iter()) {
+            if let Some(ban) = bans.get_mut(*column) {
+                *ban = *is_lost;
+            }
+        }
+        for call in visited {
+            if let Some(ban) = bans.get_mut((*call as usize).saturating_add(BEFORE_CALLS)) {
+                *ban = true;
+            }
+        }
+        Ok(bans)
+    }
+
+    /// How many parts the value rises by where columns are banned, at most so many. The solution is as before then.
+    pub fn gain(
+        &mut self,
+        alloc: Global,
+        basis: &Basis,
+        bans: &[bool],
+        value: i64,
+        most: i64,
+    ) -> Result<i64, AllocError> {
+        let stop = Fixed::of(value.saturating_add(most) / PARTS + 1);
+        let cost = self
+            .program
+            .solve_without(alloc, bans, stop, MOST_TRIAL_STEPS)?;
+        self.program.go_back(basis);
+        match cost {
+            None => Ok(most),
+            Some(cost) => Ok(
+                cost.whole(PARTS)
+                    .saturating_sub(value)
+                    .clamp(0, most.max(0)),
+            ),
+        }
     }
 
     /// The price that the duals give, in whole numbers.

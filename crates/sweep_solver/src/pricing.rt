@@ -28,6 +28,8 @@ pub(crate) struct Search<'a> {
     pub ctx: &'a Context,
     pub archive: &'a Archive,
     pub root: Box2,
+    /// Whether tours may be travelled the other way round.
+    pub is_reversible: bool,
 }
 
 /// Whether the bound leaves out all of the corners.
@@ -81,6 +83,23 @@ fn with_repeats(
     Ok(grown)
 }
 
+/// A master over tours of the pool.
+pub(crate) fn master_of(
+    alloc: Global,
+    search: &Search<'_>,
+    pool: &Pool,
+    corners: &[Point],
+    places: &[u64],
+) -> Result<Master, AllocError> {
+    let mut master = Master::new(alloc, search.ctx, search.root, corners)?;
+    for place in places {
+        if let Some((tour, point)) = pool.get(*place) {
+            master.add(*place, tour.calls(), point)?;
+        }
+    }
+    Ok(master)
+}
+
 /// A master over the tours of the pool without a shut arc.
 pub(crate) fn open_master(
     alloc: Global,
@@ -88,13 +107,8 @@ pub(crate) fn open_master(
     pool: &Pool,
     corners: &[Point],
 ) -> Result<Master, AllocError> {
-    let mut master = Master::new(alloc, search.ctx, search.root, corners)?;
-    for place in open_places(alloc, pool, search.ctx)? {
-        if let Some((tour, point)) = pool.get(place) {
-            master.add(place, tour.calls(), point)?;
-        }
-    }
-    Ok(master)
+    let places = open_places(alloc, pool, search.ctx)?;
+    master_of(alloc, search, pool, corners, places.as_slice())
 }
 
 /// Learns a tour, and puts it into the master where it is new and has no shut arc. Answers whether it did.

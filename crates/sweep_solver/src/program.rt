@@ -45,6 +45,14 @@ pub(crate) struct Program {
     duals: Vec<Fixed>,
 }
 
+/// A basis of a program, to go back to.
+#[derive(Drop)]
+pub(crate) struct Basis {
+    columns: Vec<usize>,
+    inverse: Vec<Vec<Fixed>>,
+    parts: Vec<Fixed>,
+}
+
 /// The row of a basis that gives way, and the part that comes in.
 #[derive(Clone, Copy, Debug, PartialEq, Eq)]
 struct Leaving {
@@ -119,6 +127,10 @@ impl Program {
         Ok(column)
     }
 
+    pub fn columns(&self) -> usize {
+        self.columns.count()
+    }
+
     pub fn set_cost(&mut self, column: usize, cost: i64) {
         self.columns.set_cost(column, Fixed::of(cost));
     }
@@ -132,7 +144,7 @@ impl Program {
     }
 
     /// What a unit of the column would change the cost by, after `solve`.
-    fn reduced_cost(&self, column: usize) -> Fixed {
+    pub fn reduced_cost(&self, column: usize) -> Fixed {
         let sum = self.columns.sum(column, self.duals.as_slice());
         self.columns.cost(column).minus(sum)
     }
@@ -262,12 +274,16 @@ impl Program {
             }
         }
         if let Some(own) = self.parts.get_mut(row) {
-            let rest = own.minus(step.times(part));
-            *own = if rest.is_less(Fixed::ZERO) {
-                Fixed::ZERO
-            } else {
-                rest
-            };
+            *own = own.minus(step.times(part));
+        }
+    }
+
+    /// Takes parts that rounding has brought below 0 for 0.
+    fn lift_parts(&mut self) {
+        for part in self.parts.iter_mut() {
+            if part.is_less(Fixed::ZERO) {
+                *part = Fixed::ZERO;
+            }
         }
     }
 
@@ -300,7 +316,128 @@ impl Program {
                 flat.saturating_add(1)
             };
             self.exchange(column, leaving, direction.as_slice(), &mut line)?;
+            self.lift_parts();
         }
         Ok(())
+    }
+
+    /// The basis as it is.
+    pub fn basis(&self, alloc: Global) -> Result<Basis, AllocError> {
+        let mut basis = Basis {
+            columns: Vec::new(alloc),
+            inverse: Vec::new(alloc),
+            parts: Vec::new(alloc),
+        };
+        basis.columns.extend_from_slice(self.basis.as_slice())?;
+        basis.parts.extend_from_slice(self.parts.as_slice())?;
+        for line in self.inverse.iter() {
+            let mut copy = Vec::new(alloc);
+            copy.extend_from_slice(line.as_slice())?;
+            basis.inverse.push(copy)?;
+        }
+        Ok(basis)
+    }
+
+    /// Goes back to an earlier basis.
+    pub fn go_back(&mut self, to: &Basis) {
+        for column in self.basis.iter() {
+            self.columns.set_held(*column, false);
+        }
+        for (own, column) in self.basis.iter_mut().zip(to.columns.iter()) {
+            *own = *column;
+            self.columns.set_held(*column, true);
+        }
+        for (own, part) in self.parts.iter_mut().zip(to.parts.iter()) {
+            *own = *part;
+        }
+        for (own, line) in self.inverse.iter_mut().zip(to.inverse.iter()) {
+            for (value, old) in own.iter_mut().zip(line.iter()) {
+                *value = *old;
+            }
+        }
+    }
+
+    /// The row that is farthest from what it may be: a part below 0, or one of a banned column.
+    fn worst_row(&self, bans: &[bool]) -> Option<usize> {
+        let mut worst = Fixed::SMALL;
+        let mut found = None;
+        for (row, (column, part)) in self.basis.iter().zip(self.parts.iter()).enumerate() {
+            let miss = if part.is_less(Fixed::ZERO) {
+                part.negated()
+            } else if bans.get(*column).copied().unwrap_or(false) {
+                *part
+            } else {
+                Fixed::ZERO
+            };
+            if worst.is_less(miss) {
+                worst = miss;
+                found = Some(row);
+            }
+        }
+        found
+    }
+
+    /// The column that comes in for a row at the least cost.
+    fn entering_for(&self, row: usize, bans: &[bool]) -> Option<usize> {
+        let line = self.inverse.get(row)?;
+        let is_above = Fixed::ZERO.is_less(*self.parts.get(row)?);
+        let mut least = Fixed::ZERO;
+        let mut found = None;
+        for column in 0..self.columns.count() {
+            if !self.columns.may_enter(column) || bans.get(column).copied().unwrap_or(false) {
+                continue;
+            }
+            let sum = self.columns.sum(column, line.as_slice());
+            let step = if is_above { sum } else { sum.negated() };
+            if !Fixed::SMALL.is_less(step) {
+                continue;
+            }
+            let cost = self.reduced_cost(column);
+            let rate = if cost.is_less(Fixed::ZERO) {
+                Fixed::ZERO
+            } else {
+                cost.over(step)
+            };
+            if found.is_none() || rate.is_less(least) {
+                found = Some(column);
+                least = rate;
+            }
+        }
+        found
+    }
+
+    /// Goes on, by the dual simplex method (Lemke 1954), to parts in which banned columns have none, until the cost is more
+    /// than `stop` or so many steps are taken. Answers the cost then, none where no parts are left.
+    pub fn solve_without(
+        &mut self,
+        alloc: Global,
+        bans: &[bool],
+        stop: Fixed,
+        steps: u32,
+    ) -> Result<Option<Fixed>, AllocError> {
+        let mut direction = Vec::new(alloc);
+        let mut line = Vec::new(alloc);
+        for _ in 0..steps {
+            let cost = self.cost();
+            let Some(row) = self.worst_row(bans) else {
+                return Ok(Some(cost));
+            };
+            if stop.is_less(cost) {
+                return Ok(Some(cost));
+            }
+            self.find_duals();
+            let Some(column) = self.entering_for(row, bans) else {
+                return Ok(None);
+            };
+            self.find_direction(column, &mut direction)?;
+            let step = direction.get(row).copied().unwrap_or(Fixed::of(1));
+            let part = self.parts.get(row).copied().unwrap_or(Fixed::ZERO);
+            let leaving = Leaving {
+                row,
+                part: part.over(step),
+            };
+            self.exchange(column, leaving, direction.as_slice(), &mut line)?;
+        }
+        Ok(Some(self.cost()))
     }
 }

@@ -96,7 +96,7 @@ fn begun(
     ensures improved { Improves archive.old archive.new }
 {
     let root = Context::root(alloc, regions.inst)?;
-    let mut strategy = PricedStrategy::new(alloc, root.raw())?;
+    let mut strategy = PricedStrategy::new(alloc, regions.inst, root.raw())?;
     let plans = strategy.begin(alloc, regions, archive)?;
     offer_all(alloc, regions.inst, archive, plans)?;
     Ok(strategy)

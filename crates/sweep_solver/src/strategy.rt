@@ -7,7 +7,7 @@ ghost use Rattle.growth.specs.Growth.{IsReplayed};
 ghost use Rattle.sweep_solver.specs.Rules.{rules_of, IsProperIn};
 
 use crate::aim::{split_at_points, split_high, split_low};
-use crate::arcs::branching;
+use crate::arcs::{Branching, Edge, choose_branching};
 use crate::corners::{Corner, corners};
 use crate::leaf::leaf;
 use crate::learned::{Learned, improved, learn};
@@ -19,6 +19,7 @@ use growth::{Advice, Branch, Proposal, Strategy};
 use orienteering::{Box2, CutOnPath, Node, Plan, Point, Reason};
 use pool_cols::Pool;
 use region_ctx::Context;
+use site_model::Instance;
 use std::alloc::{AllocError, Global};
 
 /// How often the corners are looked at again after a better plan was found.
@@ -29,8 +30,25 @@ const MOST_LOOKS: u32 = 100;
 pub(crate) struct PricedStrategy {
     pool: Pool,
     root: Box2,
+    is_reversible: bool,
+    /// Arcs whose mirrors come next where they are banned.
+    edges: Vec<Edge>,
     /// Whether boxes that need arcs are put off.
     pub puts_off: bool,
+}
+
+/// How many arcs with mirrors are kept.
+const MOST_EDGES: usize = 64;
+
+/// Whether every tour may be travelled the other way round: the start is where the end is, and no call has hours of its own.
+fn is_reversible(inst: &Instance) -> bool {
+    let end = inst.calls() + 1;
+    (0..inst.calls()).all(|before| {
+        let call = before + 1;
+        inst.length(0, call) == inst.length(call, end)
+            && inst.opening(call) <= inst.opening(0)
+            && inst.closing(end) <= inst.closing(call)
+    })
 }
 
 /// An open corner, and the master's value at it.
@@ -175,10 +193,16 @@ fn split_between(aims: &[Aim]) -> Option<Node> {
 }
 
 impl PricedStrategy {
-    pub(crate) fn new(alloc: Global, root: Box2) -> Result<PricedStrategy, AllocError> {
+    pub(crate) fn new(
+        alloc: Global,
+        inst: &Instance,
+        root: Box2,
+    ) -> Result<PricedStrategy, AllocError> {
         Ok(PricedStrategy {
             pool: Pool::new(alloc)?,
             root,
+            is_reversible: is_reversible(inst),
+            edges: Vec::new(alloc),
             puts_off: false,
         })
     }
@@ -312,16 +336,66 @@ impl PricedStrategy {
         if self.puts_off {
             return Ok(Some(Proposal::Later));
         }
-        let node = match branching(alloc, search, &self.pool, open.as_slice(), aims.len() < 2)? {
-            Some(node) => node,
-            None => match middle(aims.as_slice()) {
-                Some(point) => Node::Profit {
-                    v: point.profit.saturating_sub(1),
-                },
-                None => Node::Left,
-            },
-        };
+        let node = self.branch(alloc, search, open.as_slice(), aims.as_slice())?;
         Ok(Some(Proposal::Plain(node)))
+    }
+
+    /// The mirror of an arc that is banned here, where it comes next.
+    fn pending(&self, ctx: &Context) -> Option<(u32, u32)> {
+        let end = ctx.calls() + 1;
+        for edge in self.edges.iter().rev() {
+            if let Some((from, to)) = edge.mirror {
+                if edge.from <= end
+                    && edge.to <= end
+                    && ctx.is_banned(edge.from, edge.to)
+                    && ctx.is_undecided(from, to)
+                {
+                    return Some((from, to));
+                }
+            }
+        }
+        None
+    }
+
+    fn keep_edge(&mut self, edge: Edge) -> Result<(), AllocError> {
+        if edge.mirror.is_some() {
+            if self.edges.len() >= MOST_EDGES {
+                self.edges.remove(0);
+            }
+            self.edges.push(edge)?;
+        }
+        Ok(())
+    }
+
+    /// A split by the number of tours or by an arc, else between the corners. A decided region is left to the last resort,
+    /// which has the plan of its arcs.
+    fn branch(
+        &mut self,
+        alloc: Global,
+        search: &Search<'_>,
+        open: &[Point],
+        aims: &[Aim],
+    ) -> Result<Node, AllocError> {
+        if let Some((i, j)) = self.pending(search.ctx) {
+            return Ok(Node::Arc { i, j });
+        }
+        match choose_branching(alloc, search, &self.pool, open, aims.len() < 2)? {
+            Some(Branching::Count(c)) => Ok(Node::Count { c }),
+            Some(Branching::Arc(edge)) => {
+                self.keep_edge(edge)?;
+                Ok(Node::Arc {
+                    i: edge.from,
+                    j: edge.to,
+                })
+            }
+            Some(Branching::Decided) => Ok(Node::Left),
+            None => match middle(aims) {
+                Some(point) => Ok(Node::Profit {
+                    v: point.profit.saturating_sub(1),
+                }),
+                None => Ok(Node::Left),
+            },
+        }
     }
 }
 
@@ -351,6 +425,7 @@ fn propose(
         ctx,
         archive,
         root: strategy.root,
+        is_reversible: strategy.is_reversible,
     };
     for _ in 0..MOST_LOOKS {
         let best = Point {
