@@ -2,7 +2,10 @@ pub mod Reading
 pub mod Archives
 pub mod Size
 pub mod Steps
+pub mod Awaiting
 pub mod Growing
 pub mod Shrinking
 pub mod Regrowing
+pub mod Placing
+pub mod Completing
 pub mod Continuing

@@ -1,5 +1,5 @@
 -- The old tree on its way into the new one: the nodes that are written, and the old nodes behind.
-use Rattle.std.proofs.Common.{◌≡◌, ℕ, Bool, ◌+◌, ◌≤◌, ◌⊎◌, inl, inr, List, [], ◌∷◌, ◌++◌, length, reverse, refl, ap, subst, sym, ◌∙◌, arith, length-append}
+use Rattle.std.proofs.Common.{◌≡◌, ℕ, true, ◌+◌, ◌≤◌, ◌⊎◌, inl, inr, List, [], ◌∷◌, ◌++◌, length, reverse, refl, ap, subst, sym, ◌∙◌, arith, length-append}
 use Rattle.std.specs.List.{AllByRecursion, Contains}
 use Rattle.std.proofs.lemmas.List.{append-nil, reverse-append}
 use Rattle.std.specs.declared.option.Option.{Option}
@@ -16,15 +16,19 @@ use Rattle.growth.proofs.Size.{size, step_fits}
 use Rattle.orienteering.specs.declared.Node.{Node}
 use Rattle.orienteering.specs.declared.Node.TheVariants.{Profit, Time, Count, Arc, Cut, Dominated, Cutoff, Stuck, Left}
 use Rattle.orienteering.specs.declared.Price.{Price}
+use Rattle.orienteering.specs.declared.CheckFail.{CheckFail}
 use Rattle.growth.specs.Reading.{Reading, after, IsTree}
-use Rattle.growth.specs.Growth.{Improves, IsDone, IsRefused, IsGrown, IsPlain, GrowsTree, IsWithin, IsSpent, Copies, Regrows, SplitsShrink, IsFromOpen, children_of}
+use Rattle.growth.specs.Growth.{Improves, IsRefused, IsGrown, IsPlain, PutsOff, GrowsTree, IsWithin, IsSpent, Copies, Regrows, Await, SplitsShrink, IsFromOpen, children_of, open_branches}
 use Rattle.growth.proofs.Reading.{goes_on, after-append, after-framed, after-kept, adds}
+use Rattle.growth.specs.declared.waiting.Waiting.{Waiting}
 use Rattle.growth.proofs.Steps.{keeps_accepted, children_smaller}
+use Rattle.growth.proofs.Awaiting.{hands_on, with_leaf, not_open, open_branches-append, opens_none, puts_off_none, puts_off_then}
 use Rattle.growth.proofs.Growing.{but_last}
 use Rattle.growth.proofs.Shrinking.{IsBelow, leaves_shrink}
 
-pub record Regrowing {R : Type 0} (must : Bool) (rules : RegionRules R) (Proper : R → Type 0) (points : List Listed) (root : Branch R)
-    (limit : Option ℕ) (old : List (Leaf (Branch R) Node)) (nodes behind : List Node) (stack : List (Branch R)) : Type 0 where
+pub record Regrowing {R : Type 0} (rules : RegionRules R) (Proper : R → Type 0) (points : List Listed) (root : Branch R)
+    (limit : Option ℕ) (old : List (Leaf (Branch R) Node)) (nodes behind : List Node) (stack : List (Branch R))
+    (waiting : List (Waiting R)) : Type 0 where
   pub passed : List (Leaf (Branch R) Node)
   pub found : List (Leaf (Branch R) Node)
   pub rest : after (node_step rules points) passed (reverse stack) (reverse behind)
@@ -32,7 +36,7 @@ pub record Regrowing {R : Type 0} (must : Bool) (rules : RegionRules R) (Proper 
   pub read : after (node_step rules points) [] (root ∷ []) nodes ≡ Some (record { found = found; pending = reverse stack })
   pub proper : AllByRecursion (λ p. Proper p.region) stack
   pub few : IsWithin limit (length nodes + length behind)
-  pub closed : AllByRecursion (IsDone must) nodes ⊎ IsSpent limit (length nodes + length behind)
+  pub closed : PutsOff true (open_branches found) [] waiting ⊎ IsSpent limit (length nodes + length behind)
   pub within : AllByRecursion (IsFromOpen rules old) found
 
 not_refused : {P N E : Type 0} (step : ℕ → P → N → Step P E) (found : List (Leaf P N)) (p : P) (ps : List P) (n : N)
@@ -41,27 +45,6 @@ not_refused step found p ps n ns r (Refused e) h w = cc
 not_refused step found p ps n ns r Ends h w = w
 not_refused step found p ps n ns r (Child q) h w = w
 not_refused step found p ps n ns r (Children q t) h w = w
-
--- the leaves after one accepted node
-abbrev with_leaf : {P N E : Type 0} → List (Leaf P N) → P → N → Step P E → List (Leaf P N)
-with_leaf found p n (Refused e) = found
-with_leaf found p n Ends = found ++ record { branch = p; node = n } ∷ []
-with_leaf found p n (Child q) = found
-with_leaf found p n (Children q r) = found
-
--- one accepted node hands the reading on to its children
-hands_on : {P N E : Type 0} (step : ℕ → P → N → Step P E) (found : List (Leaf P N)) (p : P) (below : List P) (n : N)
-    (ns : List N) (s : Step P E) → (IsRefused s → ⊥) →
-    goes_on step found p (reverse below) n ns s
-    ≡ after step (with_leaf found p n s) (reverse (below ++ reverse (children_of s))) ns
-hands_on step found p below n ns (Refused e) go = absurd (go tt)
-hands_on {P} {N} step found p below n ns Ends go =
-    let l : Leaf P N = record { branch = p; node = n } in
-    ap (λ (ps : List P). after step (found ++ l ∷ []) ps ns) (sym (reverse-append below []))
-hands_on {P} step found p below n ns (Child q) go =
-    ap (λ (ps : List P). after step found ps ns) (sym (reverse-append below (q ∷ [])))
-hands_on {P} step found p below n ns (Children q r) go =
-    ap (λ (ps : List P). after step found ps ns) (sym (reverse-append below (r ∷ q ∷ [])))
 
 with_leaf_all : {P N E : Type 0} (Q : Leaf P N → Type 0) (found : List (Leaf P N)) (p : P) (n : N) (s : Step P E) →
     AllByRecursion Q found → Q (record { branch = p; node = n }) → AllByRecursion Q (with_leaf found p n s)
@@ -74,7 +57,7 @@ spent_more : (limit : Option ℕ) (a b : ℕ) → IsSpent limit a → a ≤ b �
 spent_more None a b s le = s
 spent_more (Some n) a b s le = omega (arith, s)
 
-some_node : {P N E : Type 0} (step : ℕ → P → N → Step P E) (p : P) (nodes : List N) (leaves : List (Leaf P N)) →
+pub some_node : {P N E : Type 0} (step : ℕ → P → N → Step P E) (p : P) (nodes : List N) (leaves : List (Leaf P N)) →
     IsTree step p nodes leaves → 1 ≤ length nodes
 some_node {P} {N} step p [] leaves e =
     let none : p ∷ [] ≡ [] = ap (λ (o : Option (Reading P N)). elim o [ None ↦ [] | Some r ↦ r.pending ]) e in
@@ -90,17 +73,17 @@ grown_from : {R : Type 0} (rules : RegionRules R) (old : List (Leaf (Branch R) N
     IsFromOpen rules old (record { branch = p; node = n })
 grown_from rules old p n g e = absurd (subst (λ m. IsGrown m) e g)
 
-module _ {R : Type 0} (must : Bool) (rules : RegionRules R) (Proper : R → Type 0) (weight : R → ℕ) (weighs : IsWeight rules Proper weight)
+module _ {R : Type 0} (rules : RegionRules R) (Proper : R → Type 0) (weight : R → ℕ) (weighs : IsWeight rules Proper weight)
     (shrinks : SplitsShrink rules Proper) (root : Branch R) (limit : Option ℕ) (old : List (Leaf (Branch R) Node)) where
-  abbrev At : List Listed → List Node → List Node → List (Branch R) → Type 0
-  At points nodes behind stack = Regrowing must rules Proper points root limit old nodes behind stack
+  abbrev At : List Listed → List Node → List Node → List (Branch R) → List (Waiting R) → Type 0
+  At points nodes behind stack waiting = Regrowing rules Proper points root limit old nodes behind stack waiting
 
   -- the reading of the old nodes, from the next node on
   next_read : (points : List Listed) (nodes behind after_it : List Node) (stack below : List (Branch R)) (p : Branch R)
-      (n : Node) (g : At points nodes behind stack) → behind ≡ after_it ++ n ∷ [] → stack ≡ below ++ p ∷ [] →
+      (n : Node) (waiting : List (Waiting R)) (g : At points nodes behind stack waiting) → behind ≡ after_it ++ n ∷ [] → stack ≡ below ++ p ∷ [] →
       after (node_step rules points) g.passed (p ∷ reverse below) (n ∷ reverse after_it)
       ≡ Some (record { found = old; pending = [] })
-  next_read points nodes behind after_it stack below p n g split top =
+  next_read points nodes behind after_it stack below p n waiting g split top =
       let ns : reverse behind ≡ n ∷ reverse after_it = ap reverse split ∙ reverse-append after_it (n ∷ []) in
       let ps : reverse stack ≡ p ∷ reverse below = ap reverse top ∙ reverse-append below (p ∷ []) in
       sym (ap (λ qs. after (node_step rules points) g.passed qs (reverse behind)) ps
@@ -108,27 +91,28 @@ module _ {R : Type 0} (must : Bool) (rules : RegionRules R) (Proper : R → Type
       ∙ g.rest
 
   pub accepts_next : (points : List Listed) (nodes behind after_it : List Node) (stack below : List (Branch R)) (p : Branch R)
-      (n : Node) → At points nodes behind stack → behind ≡ after_it ++ n ∷ [] → stack ≡ below ++ p ∷ [] →
+      (n : Node) (waiting : List (Waiting R)) → At points nodes behind stack waiting → behind ≡ after_it ++ n ∷ [] → stack ≡ below ++ p ∷ [] →
       IsRefused (node_step rules points 0 p n) → ⊥
-  accepts_next points nodes behind after_it stack below p n g split top =
+  accepts_next points nodes behind after_it stack below p n waiting g split top =
       not_refused (node_step rules points) g.passed p (reverse below) n (reverse after_it)
       (record { found = old; pending = [] }) (node_step rules points 0 p n)
-      (next_read points nodes behind after_it stack below p n g split top)
+      (next_read points nodes behind after_it stack below p n waiting g split top)
 
-  pub next_is_proper : (points : List Listed) (nodes behind : List Node) (stack below : List (Branch R)) (p : Branch R) →
-      At points nodes behind stack → stack ≡ below ++ p ∷ [] → Proper p.region
-  next_is_proper points nodes behind stack below p g top =
+  pub next_is_proper : (points : List Listed) (nodes behind : List Node) (stack below : List (Branch R)) (p : Branch R)
+      (waiting : List (Waiting R)) → At points nodes behind stack waiting → stack ≡ below ++ p ∷ [] → Proper p.region
+  next_is_proper points nodes behind stack below p waiting g top =
       (but_last (λ (q : Branch R). Proper q.region) below p
       (subst (λ ps. AllByRecursion (λ (q : Branch R). Proper q.region) ps) top g.proper)).last
 
   -- an old node that is written again
-  pub copied : (points : List Listed) (nodes grown behind after_it : List Node) (stack below waiting : List (Branch R))
-      (p : Branch R) (n : Node) → At points nodes behind stack → behind ≡ after_it ++ n ∷ [] → stack ≡ below ++ p ∷ [] →
-      IsGrown n → Copies rules points p n nodes grown below waiting → At points grown after_it waiting
-  copied points nodes grown behind after_it stack below waiting p n g split top closes copies =
+  pub copied : (points : List Listed) (nodes grown behind after_it : List Node) (stack below pending : List (Branch R))
+      (p : Branch R) (n : Node) (waiting : List (Waiting R)) → At points nodes behind stack waiting → behind ≡ after_it ++ n ∷ [] →
+      stack ≡ below ++ p ∷ [] → IsGrown n → Copies rules points p n nodes grown below pending →
+      At points grown after_it pending waiting
+  copied points nodes grown behind after_it stack below pending p n waiting g split top closes copies =
       let rule = node_step rules points in
       let s = node_step rules points 0 p n in
-      let go = accepts_next points nodes behind after_it stack below p n g split top in
+      let go = accepts_next points nodes behind after_it stack below p n waiting g split top in
       let here : Reading (Branch R) Node = record { found = g.found; pending = reverse stack } in
       let ps : reverse stack ≡ p ∷ reverse below = ap reverse top ∙ reverse-append below (p ∷ []) in
       let properly = but_last (λ (q : Branch R). Proper q.region) below p
@@ -141,33 +125,40 @@ module _ {R : Type 0} (must : Bool) (rules : RegionRules R) (Proper : R → Type
       record {
         passed = with_leaf g.passed p n s;
         found = with_leaf g.found p n s;
-        rest = ap (λ qs. after rule (with_leaf g.passed p n s) (reverse qs) (reverse after_it)) copies.waits
+        rest = ap (λ qs. after rule (with_leaf g.passed p n s) (reverse qs) (reverse after_it)) copies.follow
             ∙ sym (hands_on rule g.passed p below n (reverse after_it) s go)
-            ∙ next_read points nodes behind after_it stack below p n g split top;
+            ∙ next_read points nodes behind after_it stack below p n waiting g split top;
         read = ap (λ ms. after rule [] (root ∷ []) ms) copies.written
             ∙ after-append rule [] (root ∷ []) nodes (n ∷ []) here g.read
             ∙ ap (λ qs. after rule g.found qs (n ∷ [])) ps
             ∙ hands_on rule g.found p below n [] s go
-            ∙ ap (λ (qs : List (Branch R)). Some (record { found = with_leaf g.found p n s; pending = reverse qs })) (sym copies.waits);
-        proper = subst (λ qs. AllByRecursion (λ (q : Branch R). Proper q.region) qs) (sym copies.waits)
+            ∙ ap (λ (qs : List (Branch R)). Some (record { found = with_leaf g.found p n s; pending = reverse qs })) (sym copies.follow);
+        proper = subst (λ qs. AllByRecursion (λ (q : Branch R). Proper q.region) qs) (sym copies.follow)
             (AllByRecursion-append (λ (q : Branch R). Proper q.region) below (reverse (children_of s)) properly.front smaller.good);
         few = subst (λ k. IsWithin limit k) count g.few;
         closed = closed_on g.closed count;
         within = with_leaf_all (IsFromOpen rules old) g.found p n s g.within (grown_from rules old p n closes);
       }
     where
-      closed_on : AllByRecursion (IsDone must) nodes ⊎ IsSpent limit (length nodes + length behind) →
+      same : (s : Step (Branch R) CheckFail) → open_branches (with_leaf g.found p n s) ≡ open_branches g.found
+      same s =
+          opens_none g.found p n s (not_open p n closes)
+          ∙ ap (λ bs. open_branches g.found ++ bs) (not_open p n closes)
+          ∙ append-nil (open_branches g.found)
+
+      closed_on : PutsOff true (open_branches g.found) [] waiting ⊎ IsSpent limit (length nodes + length behind) →
           length nodes + length behind ≡ length grown + length after_it →
-          AllByRecursion (IsDone must) grown ⊎ IsSpent limit (length grown + length after_it)
-      closed_on (inl a) count =
-          inl (subst (λ ms. AllByRecursion (IsDone must) ms) (sym copies.written) (AllByRecursion-push (IsDone must) nodes n a (λ m. closes)))
+          PutsOff true (open_branches (with_leaf g.found p n (node_step rules points 0 p n))) [] waiting
+          ⊎ IsSpent limit (length grown + length after_it)
+      closed_on (inl off) count = inl (subst (λ bs. PutsOff true bs [] waiting) (sym (same (node_step rules points 0 p n))) off)
       closed_on (inr spent) count = inr (subst (λ k. IsSpent limit k) count spent)
 
   -- a tree in the place of an open node
   pub grown_here : (points better : List Listed) (nodes grown behind after_it : List Node) (stack below : List (Branch R))
-      (p : Branch R) → Improves points better → At points nodes behind stack → behind ≡ after_it ++ Left ∷ [] →
-      stack ≡ below ++ p ∷ [] → GrowsTree must rules better p limit (length after_it) nodes grown → At better grown after_it below
-  grown_here points better nodes grown behind after_it stack below p improves g split top t =
+      (p : Branch R) (waiting later : List (Waiting R)) → Improves points better → At points nodes behind stack waiting →
+      behind ≡ after_it ++ Left ∷ [] → stack ≡ below ++ p ∷ [] →
+      GrowsTree true rules better p limit (length after_it) nodes grown waiting later → At better grown after_it below later
+  grown_here points better nodes grown behind after_it stack below p waiting later improves g split top t =
       let rule = node_step rules better in
       let keeps = keeps_accepted rules points better improves in
       let here : Reading (Branch R) Node = record { found = g.found; pending = reverse stack } in
@@ -177,7 +168,7 @@ module _ {R : Type 0} (must : Bool) (rules : RegionRules R) (Proper : R → Type
       (subst (λ ps. AllByRecursion (λ (q : Branch R). Proper q.region) ps) top g.proper) in
       let end : Reading (Branch R) Node = record { found = old; pending = [] } in
       let rest = after-kept (node_step rules points) rule keeps (g.passed ++ leaf ∷ []) (reverse below) (reverse after_it) end
-      (next_read points nodes behind after_it stack below p Left g split top) in
+      (next_read points nodes behind after_it stack below p Left waiting g split top) in
       let more = adds rule (g.passed ++ leaf ∷ []) [] (reverse below) (reverse after_it) end
       (ap (λ f. after rule f (reverse below) (reverse after_it)) (append-nil (g.passed ++ leaf ∷ [])) ∙ rest) in
       let held : Contains old leaf =
@@ -203,13 +194,15 @@ module _ {R : Type 0} (must : Bool) (rules : RegionRules R) (Proper : R → Type
             (IsFromOpen rules old) (λ l b e. (leaf, held, refl, b.shrunk)) t.leaves shrunk);
       }
     where
-      closed_on : AllByRecursion (IsDone must) nodes ⊎ IsSpent limit (length nodes + length behind) →
-          AllByRecursion (IsDone must) t.tree ⊎ IsSpent limit (length grown + length after_it) →
-          AllByRecursion (IsDone must) grown ⊎ IsSpent limit (length grown + length after_it)
-      closed_on (inl a) (inl b) =
-          inl (subst (λ ms. AllByRecursion (IsDone must) ms) (sym t.written) (AllByRecursion-append (IsDone must) nodes t.tree a b))
-      closed_on a (inr spent) = inr spent
-      closed_on (inr spent) (inl b) =
+      closed_on : PutsOff true (open_branches g.found) [] waiting ⊎ IsSpent limit (length nodes + length behind) →
+          (t.branches ≡ open_branches t.leaves) ⊎ IsSpent limit (length grown + length after_it) →
+          PutsOff true (open_branches (g.found ++ t.leaves)) [] later ⊎ IsSpent limit (length grown + length after_it)
+      closed_on (inl off) (inl all) =
+          inl (subst (λ bs. PutsOff true bs [] later)
+          (ap (λ bs. open_branches g.found ++ bs) all ∙ sym (open_branches-append g.found t.leaves))
+          (puts_off_then true (open_branches g.found) t.branches [] waiting later off t.put_off))
+      closed_on off (inr spent) = inr spent
+      closed_on (inr spent) (inl all) =
           let behind_length : length behind ≡ length after_it + 1 = ap length split ∙ length-append after_it (Left ∷ []) in
           let grown_length : length grown ≡ length nodes + length t.tree = ap length t.written ∙ length-append nodes t.tree in
           let some = some_node (node_step rules better) p t.tree t.leaves t.accepted in
@@ -217,9 +210,9 @@ module _ {R : Type 0} (must : Bool) (rules : RegionRules R) (Proper : R → Type
           (omega (arith, behind_length, grown_length, some)))
 
   -- an old node always finds a branch
-  pub no_branch : (points : List Listed) (nodes behind after_it : List Node) (stack : List (Branch R)) (n : Node) →
-      At points nodes behind stack → behind ≡ after_it ++ n ∷ [] → stack ≡ [] → ⊥
-  no_branch points nodes behind after_it stack n g split none =
+  pub no_branch : (points : List Listed) (nodes behind after_it : List Node) (stack : List (Branch R)) (n : Node)
+      (waiting : List (Waiting R)) → At points nodes behind stack waiting → behind ≡ after_it ++ n ∷ [] → stack ≡ [] → ⊥
+  no_branch points nodes behind after_it stack n waiting g split none =
       let ns : reverse behind ≡ n ∷ reverse after_it = ap reverse split ∙ reverse-append after_it (n ∷ []) in
       let ends : Reading (Branch R) Node = record { found = old; pending = [] } in
       let no : None ≡ Some ends =
@@ -229,10 +222,10 @@ module _ {R : Type 0} (must : Bool) (rules : RegionRules R) (Proper : R → Type
       cc
 
   -- the whole tree lies behind
-  pub begins : (points : List Listed) (nodes behind : List Node) (stack : List (Branch R)) → nodes ≡ [] → stack ≡ root ∷ [] →
-      IsTree (node_step rules points) root (reverse behind) old → Proper root.region → IsWithin limit (length behind) →
-      At points nodes behind stack
-  begins points nodes behind stack none alone tree proper few =
+  pub begins : (points : List Listed) (nodes behind : List Node) (stack : List (Branch R)) (waiting : List (Waiting R)) →
+      nodes ≡ [] → stack ≡ root ∷ [] → waiting ≡ [] → IsTree (node_step rules points) root (reverse behind) old →
+      Proper root.region → IsWithin limit (length behind) → At points nodes behind stack waiting
+  begins points nodes behind stack waiting none alone nothing tree proper few =
       let count : length behind ≡ length nodes + length behind = omega (arith, ap length none) in
       record {
         passed = [];
@@ -242,14 +235,14 @@ module _ {R : Type 0} (must : Bool) (rules : RegionRules R) (Proper : R → Type
             ∙ ap (λ (qs : List (Branch R)). Some (record { found = []; pending = reverse qs })) (sym alone);
         proper = subst (λ qs. AllByRecursion (λ (q : Branch R). Proper q.region) qs) (sym alone) (proper, tt);
         few = subst (λ k. IsWithin limit k) count few;
-        closed = inl (subst (λ ms. AllByRecursion (IsDone must) ms) (sym none) tt);
+        closed = inl (subst (λ ws. PutsOff true [] [] ws) (sym nothing) (puts_off_none true []));
         within = tt;
       }
 
   -- nothing is left behind
-  pub finished : (points : List Listed) (nodes behind : List Node) (stack : List (Branch R)) → At points nodes behind stack →
-      behind ≡ [] → Regrows must rules points root limit old nodes
-  finished points nodes behind stack g none =
+  pub finished : (points : List Listed) (nodes behind : List Node) (stack : List (Branch R)) (waiting : List (Waiting R)) →
+      At points nodes behind stack waiting → behind ≡ [] → Regrows rules points root limit old nodes waiting
+  finished points nodes behind stack waiting g none =
       let ends : Reading (Branch R) Node = record { found = old; pending = [] } in
       let here : Reading (Branch R) Node = record { found = g.passed; pending = reverse stack } in
       let done : Some here ≡ Some ends =
@@ -261,9 +254,15 @@ module _ {R : Type 0} (must : Bool) (rules : RegionRules R) (Proper : R → Type
         leaves = g.found;
         accepted = g.read ∙ ap (λ (qs : List (Branch R)). Some (record { found = g.found; pending = qs })) empty;
         few = subst (λ k. IsWithin limit k) count g.few;
-        closed = subst (λ k. AllByRecursion (IsDone must) nodes ⊎ IsSpent limit k) count g.closed;
+        closed = closed_at g.closed count;
         within = g.within;
       }
+    where
+      closed_at : PutsOff true (open_branches g.found) [] waiting ⊎ IsSpent limit (length nodes + length behind) →
+          length nodes + length behind ≡ length nodes →
+          Await 0 waiting (open_branches g.found) ⊎ IsSpent limit (length nodes)
+      closed_at (inl off) count = inl (subst (λ ws. Await 0 ws (open_branches g.found)) (sym off.behind) off.await)
+      closed_at (inr spent) count = inr (subst (λ k. IsSpent limit k) count spent)
 
 pub empty_from : {X : Type 0} (xs : List X) → length xs ≤ 0 → xs ≡ []
 empty_from [] h = refl

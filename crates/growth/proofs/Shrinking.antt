@@ -56,18 +56,18 @@ lies_then a b c x y =
       t_high = omega (arith, x.t_high, y.t_high);
     }
 
+pub shrinks_then : {R : Type 0} (rules : RegionRules R) (top r s : R) → Shrinks rules top r → Shrinks rules r s → Shrinks rules top s
+shrinks_then rules top r s x y b e =
+    let inner = y b e in
+    let outer = x inner.0 inner.1 in
+    (outer.0, outer.1, lies_then b inner.0 outer.0 inner.2 outer.2)
+
 module _ {R : Type 0} (rules : RegionRules R) (Proper : R → Type 0) (weight : R → ℕ) (weighs : IsWeight rules Proper weight)
     (shrinks : SplitsShrink rules Proper) (points : List Listed) (top : R) where
   -- a proper region that has no other values than the top
   pub record IsBelow (p : Branch R) : Type 0 where
     pub proper : Proper p.region
     pub shrunk : Shrinks rules top p.region
-
-  shrinks_then : (r s : R) → Shrinks rules top r → Shrinks rules r s → Shrinks rules top s
-  shrinks_then r s x y b e =
-      let inner = y b e in
-      let outer = x inner.0 inner.1 in
-      (outer.0, outer.1, lies_then b inner.0 outer.0 inner.2 outer.2)
 
   abbrev Keeps : Step (Branch R) CheckFail → Type 0
   Keeps s = AllByRecursion IsBelow (children_of s)
@@ -86,8 +86,8 @@ module _ {R : Type 0} (rules : RegionRules R) (Proper : R → Type 0) (weight : 
         | Some parts ↦ λ e.
             let proper = weighs.split_proper p.region s parts.0 parts.1 g.proper e in
             let less = shrinks p.region s parts.0 parts.1 g.proper e in (
-              record { proper = proper.0; shrunk = shrinks_then p.region parts.0 g.shrunk less.0 },
-              (record { proper = proper.1; shrunk = shrinks_then p.region parts.1 g.shrunk less.1 }, tt),
+              record { proper = proper.0; shrunk = shrinks_then rules top p.region parts.0 g.shrunk less.0 },
+              (record { proper = proper.1; shrunk = shrinks_then rules top p.region parts.1 g.shrunk less.1 }, tt),
             )
       ] refl
 

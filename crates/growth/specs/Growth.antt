@@ -1,5 +1,5 @@
 -- What a growth of a tree at an open node keeps, and what its parts promise.
-use Rattle.std.specs.Prelude.{◌≡◌, ℕ, ◌+◌, ◌≤◌, ◌<◌, ◌⊎◌, Bool, true, List, [], ◌∷◌, ◌++◌, length, reverse, ℤ, MatchOption, if◌then◌else◌}
+use Rattle.std.specs.Prelude.{◌≡◌, ℕ, ◌+◌, ◌-◌, ◌≤◌, ◌<◌, ◌⊎◌, Bool, true, false, List, [], ◌∷◌, ◌++◌, length, reverse, ℤ, MatchOption, if◌then◌else◌}
 use Rattle.std.specs.List.{AllByRecursion, Contains}
 use Rattle.std.specs.declared.option.Option.{Option}
 use Rattle.std.specs.declared.option.Option.TheVariants.{None, Some}
@@ -24,6 +24,7 @@ use Rattle.growth.specs.declared.world.Resort.{Resort}
 use Rattle.growth.specs.declared.world.Resort.TheVariants.{Halves, Empty, Realised}
 use Rattle.growth.specs.declared.world.Proposal.{Proposal}
 use Rattle.growth.specs.declared.world.Proposal.TheVariants.{Plain, Replayed, Later}
+use Rattle.growth.specs.declared.waiting.Waiting.{Waiting}
 
 -- the list has plans that reach its points, and both numbers of its points rise
 pub record IsArchive (p : Problem) (points : List Listed) : Type 0 where
@@ -46,7 +47,7 @@ IsResort rules p r (Realised plan) =
 -- a proposed cut is one that the rule would replay, with the bound that the replay gives
 abbrev pub IsReplayed : {R : Type 0} → RegionRules R → R → Proposal → Type 0
 IsReplayed rules r (Plain node) = Unit {0}
-IsReplayed rules r Later = Unit {0}
+IsReplayed rules r (Later miss) = Unit {0}
 IsReplayed rules r (Replayed price critical bound) =
     (rules.price_refusal r price ≡ None)
     × (rules.is_critical_set r critical ≡ true)
@@ -63,10 +64,6 @@ split_node (ByArc i j) = Arc i j
 abbrev pub IsGrown : Node → Type 0
 IsGrown Left = ⊥
 IsGrown n = Unit {0}
-
--- the node closes its branch or goes on from it, where no branch may be put off
-abbrev pub IsDone : Bool → Node → Type 0
-IsDone must n = must ≡ true → IsGrown n
 
 abbrev pub IsRefused : {P E : Type 0} → Step P E → Type 0
 IsRefused (Refused e) = Unit {0}
@@ -89,21 +86,54 @@ children_of Ends = []
 children_of (Child q) = q ∷ []
 children_of (Children q r) = q ∷ r ∷ []
 
--- One growth at a branch: an accepted node is written, and its children wait. The waiting branches stand in a stack, the
--- next one last.
-pub record Grows {R : Type 0} (must : Bool) (rules : RegionRules R) (points : List Listed) (branch : Branch R)
-    (nodes grown : List Node) (stack waiting : List (Branch R)) : Type 0 where
+-- the branch, where its node is open
+abbrev pub if_open : {P : Type 0} → P → Node → List P
+if_open p Left = p ∷ []
+if_open p n = []
+
+-- the branches of the open leaves, in their order
+abbrev pub open_branches : {P : Type 0} → List (Leaf P Node) → List P
+open_branches [] = []
+open_branches (l ∷ ls) = if_open l.branch l.node ++ open_branches ls
+
+-- these branches wait, in their order, at the places from this one on
+abbrev pub Await : {R : Type 0} → ℕ → List (Waiting R) → List (Branch R) → Type 0
+Await place [] [] = Unit {0}
+Await place [] (b ∷ bs) = ⊥
+Await place (w ∷ ws) [] = ⊥
+Await place (w ∷ ws) (b ∷ bs) = (w.place ≡ place) × (w.branch ≡ b) × Await (place + 1) ws bs
+
+-- The branches were put off: they wait behind those that waited before. Where none may wait there are none.
+pub record PutsOff {R : Type 0} (may_wait : Bool) (branches : List (Branch R)) (before waiting : List (Waiting R)) : Type 0 where
+  pub more : List (Waiting R)
+  pub behind : waiting ≡ before ++ more
+  pub await : Await (length before) more branches
+  pub prompt : may_wait ≡ false → more ≡ []
+
+-- One growth at a branch: an accepted node is written that closes it or goes on from it, and its children are pending. The
+-- pending branches stand in a stack, the next one last.
+pub record Grows {R : Type 0} (rules : RegionRules R) (points : List Listed) (branch : Branch R)
+    (nodes grown : List Node) (stack pending : List (Branch R)) : Type 0 where
   pub node : Node
-  pub closes : IsDone must node
+  pub closes : IsGrown node
   pub accepted : IsRefused (node_step rules points 0 branch node) → ⊥
   pub written : grown ≡ nodes ++ node ∷ []
-  pub waits : waiting ≡ stack ++ reverse (children_of (node_step rules points 0 branch node))
+  pub follow : pending ≡ stack ++ reverse (children_of (node_step rules points 0 branch node))
 
--- The node of a tree is written again, and its children wait.
-pub record Copies {R : Type 0} (rules : RegionRules R) (points : List Listed) (branch : Branch R) (node : Node)
-    (nodes grown : List Node) (stack waiting : List (Branch R)) : Type 0 where
+-- One growth at a branch, which is put off where its node is left open.
+pub record Advances {R : Type 0} (may_wait : Bool) (rules : RegionRules R) (points : List Listed) (branch : Branch R)
+    (nodes grown : List Node) (stack pending : List (Branch R)) (before waiting : List (Waiting R)) : Type 0 where
+  pub node : Node
+  pub accepted : IsRefused (node_step rules points 0 branch node) → ⊥
   pub written : grown ≡ nodes ++ node ∷ []
-  pub waits : waiting ≡ stack ++ reverse (children_of (node_step rules points 0 branch node))
+  pub follow : pending ≡ stack ++ reverse (children_of (node_step rules points 0 branch node))
+  pub put_off : PutsOff may_wait (if_open branch node) before waiting
+
+-- The node of a tree is written again, and its children are pending.
+pub record Copies {R : Type 0} (rules : RegionRules R) (points : List Listed) (branch : Branch R) (node : Node)
+    (nodes grown : List Node) (stack pending : List (Branch R)) : Type 0 where
+  pub written : grown ≡ nodes ++ node ∷ []
+  pub follow : pending ≡ stack ++ reverse (children_of (node_step rules points 0 branch node))
 
 -- the bound that a replay gives, if it gives one
 abbrev pub bound_of : Replay → Option ℤ
@@ -122,7 +152,7 @@ HasRoom limit count = MatchOption limit (Unit {0}) (λ n. count < n)
 abbrev pub IsSpent : Option ℕ → ℕ → Type 0
 IsSpent limit count = MatchOption limit ⊥ (λ n. n ≤ count)
 
--- the next waiting branch is taken where the budget is not spent
+-- the next pending branch is taken where the budget is not spent
 pub record IsNext {R : Type 0} (limit : Option ℕ) (count : ℕ) (stack rest : List (Branch R)) (next : Option (Branch R)) :
     Type 0 where
   pub none : next ≡ None → (stack ≡ [] ⊎ IsSpent limit count) × (rest ≡ stack)
@@ -132,15 +162,18 @@ pub record IsNext {R : Type 0} (limit : Option ℕ) (count : ℕ) (stack rest : 
 abbrev pub IsWithin : Option ℕ → ℕ → Type 0
 IsWithin limit count = MatchOption limit (Unit {0}) (λ n. count ≤ n + 1)
 
--- A tree is written behind the nodes, in the place of an open node. Nodes are left open only where the budget is spent.
-pub record GrowsTree {R : Type 0} (must : Bool) (rules : RegionRules R) (points : List Listed) (branch : Branch R) (limit : Option ℕ)
-    (others : ℕ) (nodes grown : List Node) : Type 0 where
+-- A tree is written behind the nodes, in the place of an open node, and branches of it are put off: those of its open
+-- leaves, where the budget isn't spent.
+pub record GrowsTree {R : Type 0} (may_wait : Bool) (rules : RegionRules R) (points : List Listed) (branch : Branch R) (limit : Option ℕ)
+    (others : ℕ) (nodes grown : List Node) (before waiting : List (Waiting R)) : Type 0 where
   pub tree : List Node
   pub leaves : List (Leaf (Branch R) Node)
   pub accepted : IsTree (node_step rules points) branch tree leaves
   pub written : grown ≡ nodes ++ tree
   pub few : IsWithin limit (length grown + others)
-  pub closed : AllByRecursion (IsDone must) tree ⊎ IsSpent limit (length grown + others)
+  pub branches : List (Branch R)
+  pub put_off : PutsOff may_wait branches before waiting
+  pub closed : (branches ≡ open_branches leaves) ⊎ IsSpent limit (length grown + others)
 
 -- the box lies in the other
 pub record LiesWithin (b c : Box2) : Type 0 where
@@ -163,22 +196,57 @@ abbrev pub IsFromOpen : {R : Type 0} → RegionRules R → List (Leaf (Branch R)
 IsFromOpen {R} rules old l =
     l.node ≡ Left → (o : Leaf (Branch R) Node) × Contains old o × (o.node ≡ Left) × Shrinks rules o.branch.region l.branch.region
 
+-- The tree was grown at its open nodes, or they were put off: it is accepted under the better points, the branches of its
+-- open leaves wait where the budget isn't spent, and what is left lies in what was left.
+pub record Regrows {R : Type 0} (rules : RegionRules R) (points : List Listed) (branch : Branch R) (limit : Option ℕ)
+    (old : List (Leaf (Branch R) Node)) (grown : List Node) (waiting : List (Waiting R)) : Type 0 where
+  pub leaves : List (Leaf (Branch R) Node)
+  pub accepted : IsTree (node_step rules points) branch grown leaves
+  pub few : IsWithin limit (length grown)
+  pub closed : Await 0 waiting (open_branches leaves) ⊎ IsSpent limit (length grown)
+  pub within : AllByRecursion (IsFromOpen rules old) leaves
+
+-- the nodes are a tree, and the branches of its open leaves wait
+pub record AreAwaited {R : Type 0} (rules : RegionRules R) (Proper : R → Type 0) (points : List Listed) (root : Branch R)
+    (nodes : List Node) (leaves : List (Leaf (Branch R) Node)) (waiting : List (Waiting R)) : Type 0 where
+  pub proper : Proper root.region
+  pub accepted : IsTree (node_step rules points) root nodes leaves
+  pub await : Await 0 waiting (open_branches leaves)
+
+-- the nodes, with the trees in the places of the open ones
+abbrev pub with_trees : List Node → List (List Node) → List Node
+with_trees [] ts = []
+with_trees (Left ∷ ns) (t ∷ ts) = t ++ with_trees ns ts
+with_trees (n ∷ ns) ts = n ∷ with_trees ns ts
+
+-- the budget of a tree that takes the place of one open node, in a tree of so many nodes
+abbrev pub IsRoom : Option ℕ → Option ℕ → ℕ → Type 0
+IsRoom None None count = Unit {0}
+IsRoom None (Some more) count = ⊥
+IsRoom (Some n) None count = ⊥
+IsRoom (Some n) (Some more) count = more + count ≡ n + 1
+
+-- the same budget once one open node has given way to so many nodes
+abbrev pub room_after : Option ℕ → ℕ → Option ℕ
+room_after None count = None
+room_after (Some more) count = Some (more + 1 - count)
+
 -- The tree was grown at its open nodes: it is accepted under the better points, nodes are left open only where the budget
 -- is spent, and what is left lies in what was left.
-pub record Regrows {R : Type 0} (must : Bool) (rules : RegionRules R) (points : List Listed) (branch : Branch R) (limit : Option ℕ)
+pub record Completes {R : Type 0} (rules : RegionRules R) (points : List Listed) (branch : Branch R) (limit : Option ℕ)
     (old : List (Leaf (Branch R) Node)) (grown : List Node) : Type 0 where
   pub leaves : List (Leaf (Branch R) Node)
   pub accepted : IsTree (node_step rules points) branch grown leaves
   pub few : IsWithin limit (length grown)
-  pub closed : AllByRecursion (IsDone must) grown ⊎ IsSpent limit (length grown)
+  pub closed : AllByRecursion IsGrown grown ⊎ IsSpent limit (length grown)
   pub within : AllByRecursion (IsFromOpen rules old) leaves
 
--- The checker reads the grown tree under the better points: nodes are left open only where the budget is spent or branches
--- may be put off, and what is left lies in what was left.
-pub record Continues {R : Type 0} (must : Bool) (rules : RegionRules R) (points : List Listed) (root : R) (limit : Option ℕ)
+-- The checker reads the grown tree under the better points: nodes are left open only where the budget is spent, and what
+-- is left lies in what was left.
+pub record Continues {R : Type 0} (rules : RegionRules R) (points : List Listed) (root : R) (limit : Option ℕ)
     (old : List (Leaf (Branch R) Node)) (grown : List Node) : Type 0 where
   pub leaves : List (Leaf (Branch R) Node)
   pub accepted : read_nodes rules points root grown ≡ Ok leaves
   pub few : IsWithin limit (length grown)
-  pub closed : AllByRecursion (IsDone must) grown ⊎ IsSpent limit (length grown)
+  pub closed : AllByRecursion IsGrown grown ⊎ IsSpent limit (length grown)
   pub within : AllByRecursion (IsFromOpen rules old) leaves

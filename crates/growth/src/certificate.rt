@@ -7,7 +7,9 @@ ghost use Rattle.orienteering.specs.declared.Node.{Node};
 ghost use Rattle.growth.specs.Growth.{IsArchive, Improves, IsWithin, Continues};
 
 use crate::branch::Branch;
+use crate::grow::has_room;
 use crate::regrow::grow_open_nodes;
+use crate::waiting::grow_waiting;
 use crate::world::{Strategy, World};
 use front_archive::Archive;
 use orienteering::Node;
@@ -17,16 +19,15 @@ use std::alloc::{AllocError, Global};
 /// accepts with the better points of the archive.
 ///
 /// `limit` is a number of nodes of the whole tree: the answer has at most one more, and a node is left open only where the
-/// answer has as many. Where there is no limit, none is left open. This is so where `must` holds; where it doesn't, the
-/// strategy may also put nodes off. The box of each node that is left open lies in the box of one that was open before.
-/// The archive stays one of plans with their points, and improves alone, also where memory is wanted.
+/// answer has as many. Where there is no limit, none is left open: branches that the strategy puts off are grown once the
+/// others are closed, the nearest first. The box of each node that is left open lies in the box of one that was open
+/// before. The archive stays one of plans with their points, and improves alone, also where memory is wanted.
 #[tactic(auto, using(crate::proofs::Archives::improves_same))]
 pub fn grow_certificate<W: World, S: Strategy<W>>(
     alloc: Global,
     world: &W,
     archive: &mut Archive,
     strategy: &mut S,
-    must: bool,
     root: W::Region,
     nodes: Vec<Node>,
     limit: Option<u64>,
@@ -40,10 +41,24 @@ pub fn grow_certificate<W: World, S: Strategy<W>>(
     ensures improved { Improves archive.old archive.new }
     ensures grown { IfOk result (λ grown. (leaves : List (Leaf (Branch W.Region) Node)) →
         read_nodes (W.rules world.now) archive.old root nodes.items ≡ Ok leaves →
-        Continues must (W.rules world.now) archive.new root limit leaves grown.items) }
+        Continues (W.rules world.now) archive.new root limit leaves grown.items) }
 {
     let mut behind = nodes;
     behind.reverse();
     let branch = Branch::root(alloc, root);
-    grow_open_nodes(alloc, world, archive, strategy, must, branch, behind, limit)
+    let mut waiting = Vec::new(alloc);
+    let nodes = grow_open_nodes(
+        alloc,
+        world,
+        archive,
+        strategy,
+        branch,
+        behind,
+        limit,
+        &mut waiting,
+    )?;
+    if !has_room(limit, nodes.len() as u128) {
+        return Ok(nodes);
+    }
+    grow_waiting(alloc, world, archive, strategy, nodes, waiting, limit)
 }

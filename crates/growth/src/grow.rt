@@ -5,10 +5,11 @@ ghost use Rattle.std.specs.List.{AllByRecursion};
 ghost use Rattle.orienteering.specs.Tour.{IsPlan};
 ghost use Rattle.orienteering.specs.Decision.{node_step};
 ghost use Rattle.orienteering.specs.declared.Node.TheVariants.{Left};
-ghost use Rattle.growth.specs.Growth.{IsArchive, Improves, IsReplayed, IsPlain, IsRefused, Grows, GrowsTree, HasRoom, IsSpent, IsNext, IsWithin, children_of, split_node};
+ghost use Rattle.growth.specs.Growth.{IsArchive, Improves, IsReplayed, IsPlain, IsRefused, Grows, Advances, GrowsTree, HasRoom, IsSpent, IsNext, IsWithin, children_of, split_node};
 
 use crate::branch::Branch;
 use crate::judge::{is_refused, judge};
+use crate::waiting::Waiting;
 use crate::world::{Proposal, Resort, Strategy, World};
 use front_archive::Archive;
 use orienteering::{CutOnPath, Node, Plan, Price, Split, Step, Tour};
@@ -83,7 +84,7 @@ fn grow_as_last_resort<W: World>(
     requires archive { IsArchive (W.problem world.now) archive.old }
     ensures archive { IsArchive (W.problem world.now) archive.new }
     ensures improved { Improves archive.old archive.new }
-    ensures grows { OnOk result (Grows true (W.rules world.now) archive.new branch.now nodes.old.items nodes.new.items pending.old.items pending.new.items) }
+    ensures grows { OnOk result (Grows (W.rules world.now) archive.new branch.now nodes.old.items nodes.new.items pending.old.items pending.new.items) }
 {
     let node = resort_node(alloc, world, archive, branch)?;
     let step = judge(alloc, world, archive, branch, &node)?;
@@ -106,7 +107,7 @@ fn grow_as_judged<W: World>(
     requires archive { IsArchive (W.problem world.now) archive.old }
     ensures archive { IsArchive (W.problem world.now) archive.new }
     ensures improved { Improves archive.old archive.new }
-    ensures grows { OnOk result (Grows true (W.rules world.now) archive.new branch.now nodes.old.items nodes.new.items pending.old.items pending.new.items) }
+    ensures grows { OnOk result (Grows (W.rules world.now) archive.new branch.now nodes.old.items nodes.new.items pending.old.items pending.new.items) }
 {
     let step = judge(alloc, world, archive, branch, &node)?;
     if is_refused(&step) {
@@ -134,7 +135,7 @@ fn grow_by_cut<W: World>(
     requires replayed { IsReplayed (W.rules world.now) branch.region (Proposal.Replayed price critical bound) }
     ensures archive { IsArchive (W.problem world.now) archive.new }
     ensures improved { Improves archive.old archive.new }
-    ensures grows { OnOk result (Grows true (W.rules world.now) archive.new branch nodes.old.items nodes.new.items pending.old.items pending.new.items) }
+    ensures grows { OnOk result (Grows (W.rules world.now) archive.new branch nodes.old.items nodes.new.items pending.old.items pending.new.items) }
 {
     if branch.is_under_cut() {
         return grow_as_last_resort(alloc, world, archive, &branch, nodes, pending);
@@ -150,26 +151,34 @@ fn grow_by_cut<W: World>(
     Ok(())
 }
 
-/// Leaves a branch open for another round, where that is allowed.
+/// Leaves a branch open and lets it wait, where that is allowed.
 #[tactic(auto, using(crate::proofs::Archives::improves_same))]
 fn put_off<W: World>(
     alloc: Global,
     world: &W,
     archive: &mut Archive,
-    must: bool,
-    branch: &Branch<W::Region>,
+    may_wait: bool,
+    branch: Branch<W::Region>,
+    miss: u64,
     nodes: &mut Vec<Node>,
     pending: &mut Vec<Branch<W::Region>>,
+    waiting: &mut Vec<Waiting<W::Region>>,
 ) -> Result<(), AllocError>
-    requires proper { W.proper world.now branch.now.region }
+    requires proper { W.proper world.now branch.region }
     requires archive { IsArchive (W.problem world.now) archive.old }
     ensures archive { IsArchive (W.problem world.now) archive.new }
     ensures improved { Improves archive.old archive.new }
-    ensures grows { OnOk result (Grows must (W.rules world.now) archive.new branch.now nodes.old.items nodes.new.items pending.old.items pending.new.items) }
+    ensures advances { OnOk result (Advances may_wait (W.rules world.now) archive.new branch nodes.old.items nodes.new.items pending.old.items pending.new.items waiting.old.items waiting.new.items) }
 {
-    if must {
-        return grow_as_last_resort(alloc, world, archive, branch, nodes, pending);
+    if !may_wait {
+        return grow_as_last_resort(alloc, world, archive, &branch, nodes, pending);
     }
+    let place = waiting.len();
+    waiting.push(Waiting {
+        branch,
+        miss,
+        place,
+    })?;
     nodes.push(Node::Left)?;
     Ok(())
 }
@@ -199,21 +208,24 @@ fn grow_branch<W: World, S: Strategy<W>>(
     world: &W,
     archive: &mut Archive,
     strategy: &mut S,
-    must: bool,
+    may_wait: bool,
     branch: Branch<W::Region>,
     nodes: &mut Vec<Node>,
     pending: &mut Vec<Branch<W::Region>>,
+    waiting: &mut Vec<Waiting<W::Region>>,
 ) -> Result<(), AllocError>
     requires proper { W.proper world.now branch.region }
     requires archive { IsArchive (W.problem world.now) archive.old }
     ensures archive { IsArchive (W.problem world.now) archive.new }
     ensures improved { Improves archive.old archive.new }
-    ensures grows { OnOk result (Grows must (W.rules world.now) archive.new branch nodes.old.items nodes.new.items pending.old.items pending.new.items) }
+    ensures advances { OnOk result (Advances may_wait (W.rules world.now) archive.new branch nodes.old.items nodes.new.items pending.old.items pending.new.items waiting.old.items waiting.new.items) }
 {
-    let advice = strategy.advise(alloc, world, &branch, archive)?;
+    let advice = strategy.advise(alloc, world, &branch, archive, may_wait)?;
     offer_all(alloc, world, archive, advice.plans)?;
     match advice.proposal {
-        Proposal::Later => put_off(alloc, world, archive, must, &branch, nodes, pending),
+        Proposal::Later { miss } => put_off(
+            alloc, world, archive, may_wait, branch, miss, nodes, pending, waiting,
+        ),
         Proposal::Plain(node) => {
             grow_as_judged(alloc, world, archive, &branch, node, nodes, pending)
         }
@@ -227,7 +239,7 @@ fn grow_branch<W: World, S: Strategy<W>>(
     }
 }
 
-fn has_room(limit: Option<u64>, count: u128) -> bool
+pub(crate) fn has_room(limit: Option<u64>, count: u128) -> bool
     ensures room { IsTrue result → HasRoom limit count }
     ensures spent { (IsTrue result → ⊥) → IsSpent limit count }
 {
@@ -263,26 +275,28 @@ fn leave_open(nodes: &mut Vec<Node>, count: usize) -> Result<(), AllocError>
     Ok(())
 }
 
-/// Writes the nodes of a tree in the place of an open node, behind the nodes that stand before it. The tree is left open
-/// only where the budget is spent: a number of nodes that counts those written, those that wait, and the others.
+/// Writes the nodes of a tree in the place of an open node, behind the nodes that stand before it, and puts the branches
+/// that wait behind those that waited before. The tree is left open at other branches only where the budget is spent: a
+/// number of nodes that counts those written, those that are pending, and the others.
 #[tactic(auto, using(crate::proofs::Archives::improves_same))]
 pub(crate) fn grow_tree<W: World, S: Strategy<W>>(
     alloc: Global,
     world: &W,
     archive: &mut Archive,
     strategy: &mut S,
-    must: bool,
+    may_wait: bool,
     branch: Branch<W::Region>,
     limit: Option<u64>,
     others: u64,
     nodes: &mut Vec<Node>,
+    waiting: &mut Vec<Waiting<W::Region>>,
 ) -> Result<(), AllocError>
     requires proper { W.proper world.now branch.region }
     requires archive { IsArchive (W.problem world.now) archive.old }
     requires within { IsWithin limit (length nodes.old.items + 1 + others) }
     ensures archive { IsArchive (W.problem world.now) archive.new }
     ensures improved { Improves archive.old archive.new }
-    ensures grown { OnOk result (GrowsTree must (W.rules world.now) archive.new branch limit others nodes.old.items nodes.new.items) }
+    ensures grown { OnOk result (GrowsTree may_wait (W.rules world.now) archive.new branch limit others nodes.old.items nodes.new.items waiting.old.items waiting.new.items) }
 {
     let mut pending = Vec::new(alloc);
     pending.push(branch)?;
@@ -292,10 +306,11 @@ pub(crate) fn grow_tree<W: World, S: Strategy<W>>(
             world,
             archive,
             strategy,
-            must,
+            may_wait,
             next,
             nodes,
             &mut pending,
+            waiting,
         )?;
     }
     leave_open(nodes, pending.len())

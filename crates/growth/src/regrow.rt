@@ -11,6 +11,7 @@ ghost use Rattle.growth.specs.Growth.{IsArchive, Improves, IsRefused, IsPlain, I
 use crate::branch::Branch;
 use crate::grow::{grow_tree, push_children};
 use crate::judge::judge;
+use crate::waiting::Waiting;
 use crate::world::{Strategy, World};
 use front_archive::Archive;
 use orienteering::{CutOnPath, Node, Price, Tour};
@@ -65,28 +66,30 @@ fn copy_plain<W: World>(
     push_children(pending, step)
 }
 
-/// Writes an accepted tree again, with a tree in the place of each open node while the budget lasts. The nodes are handed
-/// in with the root last.
+/// Writes an accepted tree again, with a tree in the place of each open node while the budget lasts, and answers the
+/// branches that wait, which are those of its open leaves where the budget isn't spent. The nodes are handed in with the
+/// root last.
 #[tactic(auto, using(crate::proofs::Archives::improves_same))]
 pub(crate) fn grow_open_nodes<W: World, S: Strategy<W>>(
     alloc: Global,
     world: &W,
     archive: &mut Archive,
     strategy: &mut S,
-    must: bool,
     root: Branch<W::Region>,
     behind: Vec<Node>,
     limit: Option<u64>,
+    waiting: &mut Vec<Waiting<W::Region>>,
 ) -> Result<Vec<Node>, AllocError>
     requires proper { W.proper world.now root.region }
     requires archive { IsArchive (W.problem world.now) archive.old }
     requires accepted { IsAccepted (W.rules world.now) archive.old root (reverse behind.items) }
     requires within { IsWithin limit (length behind.items) }
+    requires none { waiting.old.items ≡ [] }
     ensures archive { IsArchive (W.problem world.now) archive.new }
     ensures improved { Improves archive.old archive.new }
     ensures grown { IfOk result (λ nodes. (leaves : List (Leaf (Branch W.Region) Node)) →
         IsTree (node_step (W.rules world.now) archive.old) root (reverse behind.items) leaves →
-        Regrows must (W.rules world.now) archive.new root limit leaves nodes.items) }
+        Regrows (W.rules world.now) archive.new root limit leaves nodes.items waiting.new.items) }
 {
     let mut behind = behind;
     let mut nodes = Vec::new(alloc);
@@ -102,11 +105,12 @@ pub(crate) fn grow_open_nodes<W: World, S: Strategy<W>>(
                 world,
                 archive,
                 strategy,
-                must,
+                true,
                 branch,
                 limit,
                 behind.len() as u64,
                 &mut nodes,
+                waiting,
             )?,
             Node::Cut { price, critical } => copy_cut(
                 alloc,

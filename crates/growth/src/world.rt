@@ -35,8 +35,10 @@ pub enum Proposal {
         critical: Tour,
         bound: i128,
     },
-    /// Nothing in this round: the node stays open.
-    Later,
+    /// The branch waits. Of those that wait the one that misses least comes first, of equal ones the first in the tree.
+    Later {
+        miss: u64,
+    },
 }
 
 /// A proposal, and plans that were found on the way.
@@ -108,13 +110,15 @@ pub trait World {
 
 /// What to do at an open node. No proof rests on how good the advice is.
 pub trait Strategy<W: World> {
-    /// The advice for the branch, with the best points so far. Its plans may be any lists of tours.
+    /// The advice for the branch, with the best points so far. Its plans may be any lists of tours. Where the branch may
+    /// not wait, the last resort answers for `Later`.
     fn advise(
         &mut self,
         alloc: Global,
         world: &W,
         branch: &Branch<W::Region>,
         archive: &Archive,
+        may_wait: bool,
     ) -> Result<Advice, AllocError>
         requires { W.proper world.now branch.now.region }
         ensures { IfOk result (λ a. IsReplayed (W.rules world.now) branch.now.region a.proposal) };

@@ -26,7 +26,7 @@ use Rattle.orienteering.proofs.Lists.{AllByRecursion-contains}
 use Rattle.orienteering.proofs.Members.{nat_eq_itself}
 use Rattle.orienteering.proofs.Points.{Rise}
 use Rattle.orienteering.proofs.PlanCheck.{plans_are_accepted}
-use Rattle.growth.specs.Growth.{IsArchive, IsDone, IsSpent, IsWithin}
+use Rattle.growth.specs.Growth.{IsArchive, IsGrown, IsSpent, IsWithin}
 use Rattle.sweep_solver.specs.Solved.{KeepsBudget}
 
 both_same : (a b : ℕ) → (nat_eq a a && nat_eq b b) ≡ true
@@ -99,11 +99,11 @@ module _ (p : Problem) (labels : ℕ) (c : Certificate) where
 
 -- ---- the budget
 
-no_open : (nodes : List Node) → AllByRecursion (IsDone true) nodes → Contains nodes Left → ⊥
-no_open nodes done open_one = AllByRecursion-contains (IsDone true) nodes Left done open_one refl
+no_open : (nodes : List Node) → AllByRecursion IsGrown nodes → Contains nodes Left → ⊥
+no_open nodes grown open_one = AllByRecursion-contains IsGrown nodes Left grown open_one
 
 pub keeps_budget : (limit : Option ℕ) (nodes : List Node) → IsWithin limit (length nodes) →
-    AllByRecursion (IsDone true) nodes ⊎ IsSpent limit (length nodes) → KeepsBudget limit nodes
+    AllByRecursion IsGrown nodes ⊎ IsSpent limit (length nodes) → KeepsBudget limit nodes
 keeps_budget None nodes few (inl done) = no_open nodes done
 keeps_budget None nodes few (inr spent) = absurd spent
 keeps_budget (Some n) nodes few (inl done) = (few, λ open_one. absurd (no_open nodes done open_one))

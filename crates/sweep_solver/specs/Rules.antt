@@ -1,13 +1,9 @@
 -- The rules of the regions of a search.
-use Rattle.std.specs.Prelude.{ℤ}
-use Rattle.std.specs.declared.option.Option.{Option}
-use Rattle.std.specs.declared.option.Option.TheVariants.{None, Some}
 use Rattle.orienteering.specs.Instance.{Problem}
 use Rattle.orienteering.specs.Region.{Region, IsProper}
 use Rattle.orienteering.specs.RegionRules.{RegionRules}
 use Rattle.orienteering.specs.Decide.{region_rules}
 use Rattle.sweep_solver.specs.declared.regions.Regions.{Regions}
-use Rattle.sweep_solver.specs.declared.regions.Replay.{Replay}
 
 abbrev pub problem_of : Regions → Problem
 problem_of regions = regions.inst.now
@@ -17,8 +13,3 @@ rules_of regions = region_rules regions.inst.now regions.labels
 
 abbrev pub IsProperIn : Regions → Region → Type 0
 IsProperIn regions r = IsProper regions.inst.now r
-
--- the bound of a replay, none where it was given up
-abbrev pub bound_in : Option Replay → Option ℤ
-bound_in None = None
-bound_in (Some replay) = Some replay.bound

@@ -25,7 +25,7 @@ fn greatest_profit(cut: CutOnPath, area: Box2) -> Option<u64> {
 }
 
 /// The greatest time up to which the bound of the cut leaves no plan in the box.
-fn greatest_closed_time(cut: CutOnPath, area: Box2) -> Option<u64> {
+pub(crate) fn greatest_closed_time(cut: CutOnPath, area: Box2) -> Option<u64> {
     let value = weighted(cut.alpha, area.p_lo).checked_sub(cut.bound)?;
     let value = u128::try_from(value.checked_sub(1)?).ok()?;
     u64::try_from(value.checked_div(u128::from(cut.beta))?).ok()

@@ -6,8 +6,8 @@ use std::alloc::{AllocError, Global};
 /// What a column adds to a row.
 #[derive(Clone, Copy, Debug, PartialEq, Eq)]
 pub(crate) struct Entry {
-    pub row: usize,
-    pub value: Fixed,
+    pub row: u32,
+    pub value: i32,
 }
 
 /// A column, without its entries.
@@ -42,8 +42,11 @@ impl Columns {
     }
 
     /// Puts an entry to the column that is added next.
-    pub fn put_entry(&mut self, row: usize, value: Fixed) -> Result<(), AllocError> {
-        self.entries.push(Entry { row, value })?;
+    pub fn put_entry(&mut self, row: usize, value: i64) -> Result<(), AllocError> {
+        self.entries.push(Entry {
+            row: row.min(u32::MAX as usize) as u32,
+            value: value.clamp(i64::from(i32::MIN), i64::from(i32::MAX)) as i32,
+        })?;
         Ok(())
     }
 
@@ -114,8 +117,8 @@ impl Columns {
     pub fn sum(&self, column: usize, rows: &[Fixed]) -> Fixed {
         let mut sum = Fixed::ZERO;
         for entry in self.entries(column) {
-            if let Some(value) = rows.get(entry.row) {
-                sum = sum.plus(value.times(entry.value));
+            if let Some(value) = rows.get(entry.row as usize) {
+                sum = sum.plus(value.times_whole(entry.value));
             }
         }
         sum

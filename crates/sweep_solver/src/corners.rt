@@ -1,7 +1,7 @@
 //! The corners of a box: the best points of its undominated steps.
 
-use crate::aim::is_closed_by;
-use orienteering::{Box2, CutOnPath, Point};
+use crate::aim::{is_closed_by, split_high, split_low};
+use orienteering::{Box2, CutOnPath, Node, Point};
 use std::alloc::{AllocError, Global};
 
 /// The least profit of a step of the box that no point dominates, with its greatest time.
@@ -64,4 +64,17 @@ pub(crate) fn corners(
         found.push(corner)?;
     }
     Ok(found)
+}
+
+/// A split of what the bounds of cuts close at the ends of the box.
+pub(crate) fn trim(cuts: &[CutOnPath], area: Box2, found: &[Corner]) -> Option<Node> {
+    if found.first().is_none_or(|corner| !corner.is_open) {
+        if let Some(node) = split_low(cuts, area) {
+            return Some(node);
+        }
+    }
+    if found.last().is_none_or(|corner| !corner.is_open) {
+        return split_high(cuts, area);
+    }
+    None
 }

@@ -41,6 +41,20 @@ impl Fixed {
         }
     }
 
+    /// So many times the number.
+    pub fn times_whole(self, times: i32) -> Fixed {
+        Fixed {
+            units: self.units.wrapping_mul(i128::from(times)),
+        }
+    }
+
+    /// Half of the number, towards the lesser.
+    pub fn half(self) -> Fixed {
+        Fixed {
+            units: self.units >> 1,
+        }
+    }
+
     /// The quotient, 0 by 0.
     pub fn over(self, divisor: Fixed) -> Fixed {
         let dividend = self.units.wrapping_mul(1 << DIGITS);

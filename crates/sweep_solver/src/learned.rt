@@ -39,6 +39,22 @@ impl Learned {
         is_covered(self.points.as_slice(), point)
     }
 
+    /// Keeps the list of tours where it is a plan and no point so far weakly dominates its point.
+    pub fn learn_plan(
+        &mut self,
+        alloc: Global,
+        regions: &Regions<'_>,
+        plan: &Plan,
+    ) -> Result<(), AllocError> {
+        match plan_value(alloc, regions.inst, plan) {
+            Ok(point) if !self.covers(point) => {
+                let copy = plan.copy(alloc)?;
+                self.keep(alloc, point, copy)
+            }
+            _ => Ok(()),
+        }
+    }
+
     /// Keeps a plan with its point, which no point so far dominates.
     fn keep(&mut self, alloc: Global, point: Point, plan: Plan) -> Result<(), AllocError> {
         let mut points = Vec::new(alloc);

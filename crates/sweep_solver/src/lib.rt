@@ -10,10 +10,12 @@
 #![tactic(auto)]
 
 mod aim;
+mod aims;
 mod arcs;
 mod columns;
 mod corners;
 mod fixed;
+mod ladder;
 mod leaf;
 mod learned;
 mod master;
@@ -28,6 +30,7 @@ mod strategy;
 #[cfg(test)]
 mod tests;
 mod trials;
+mod walks;
 mod world;
 
 pub use options::{Options, solve};

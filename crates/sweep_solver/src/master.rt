@@ -243,6 +243,12 @@ impl Master {
         })
     }
 
+    /// What the tours of the solution are worth under its price, where time weighs so much.
+    pub fn level(&self, beta: u32) -> i128 {
+        let rows = self.program.dual(1).plus(self.program.dual(2));
+        i128::from(rows.whole(i64::from(beta)).saturating_neg())
+    }
+
     /// The parts of the pool's tours.
     pub fn shares(&self, alloc: Global) -> Result<Vec<(u64, Fixed)>, AllocError> {
         let mut shares = Vec::new(alloc);

@@ -53,6 +53,13 @@ pub(crate) struct Basis {
     parts: Vec<Fixed>,
 }
 
+/// A column that may come in, and what a unit of it changes the cost by: less than 0.
+#[derive(Clone, Copy, Debug, PartialEq, Eq)]
+struct Saving {
+    column: usize,
+    cost: Fixed,
+}
+
 /// The row of a basis that gives way, and the part that comes in.
 #[derive(Clone, Copy, Debug, PartialEq, Eq)]
 struct Leaving {
@@ -85,11 +92,11 @@ impl Program {
     ) -> Result<(), AllocError> {
         match row.slack {
             Slack::None => {}
-            Slack::Below => self.add_unit(place, Fixed::of(1), Fixed::ZERO, false)?,
-            Slack::Above => self.add_unit(place, Fixed::of(-1), Fixed::ZERO, false)?,
+            Slack::Below => self.add_unit(place, 1, Fixed::ZERO, false)?,
+            Slack::Above => self.add_unit(place, -1, Fixed::ZERO, false)?,
         }
         if let Some(cost) = row.artificial {
-            self.add_unit(place, Fixed::of(1), Fixed::of(cost), true)?;
+            self.add_unit(place, 1, Fixed::of(cost), true)?;
         }
         let last = self.columns.count().saturating_sub(1);
         self.columns.set_held(last, true);
@@ -107,7 +114,7 @@ impl Program {
     fn add_unit(
         &mut self,
         row: usize,
-        value: Fixed,
+        value: i64,
         cost: Fixed,
         is_barred: bool,
     ) -> Result<(), AllocError> {
@@ -117,7 +124,7 @@ impl Program {
 
     /// Puts an entry to the column that is added next.
     pub fn put_entry(&mut self, row: usize, value: i64) -> Result<(), AllocError> {
-        self.columns.put_entry(row, Fixed::of(value))
+        self.columns.put_entry(row, value)
     }
 
     /// Adds the column of the entries that were put, and answers its number.
@@ -175,24 +182,83 @@ impl Program {
         }
     }
 
-    /// The column that comes in: the one that saves most, or the first that saves.
-    fn entering(&self, takes_first: bool) -> Option<usize> {
-        let mut best = None;
-        let mut least = Fixed::SMALL_COST.negated();
+    /// The first column that saves.
+    fn first_saving(&self) -> Option<Saving> {
         for column in 0..self.columns.count() {
-            if !self.columns.may_enter(column) {
-                continue;
+            if let Some(saving) = self.saving(column) {
+                return Some(saving);
             }
-            let cost = self.reduced_cost(column);
-            if cost.is_less(least) {
-                if takes_first {
-                    return Some(column);
+        }
+        None
+    }
+
+    /// What a unit of the column saves, if it may come in and saves anything.
+    fn saving(&self, column: usize) -> Option<Saving> {
+        if !self.columns.may_enter(column) {
+            return None;
+        }
+        let cost = self.reduced_cost(column);
+        if cost.is_less(Fixed::SMALL_COST.negated()) {
+            Some(Saving { column, cost })
+        } else {
+            None
+        }
+    }
+
+    /// Lists the columns that save at least half as much as the one that saves most.
+    fn find_savings(&self, savings: &mut Vec<Saving>) -> Result<(), AllocError> {
+        savings.clear();
+        let mut least = Fixed::ZERO;
+        for column in 0..self.columns.count() {
+            if let Some(saving) = self.saving(column) {
+                if saving.cost.is_less(least) {
+                    least = saving.cost;
                 }
-                best = Some(column);
-                least = cost;
+                if !least.half().is_less(saving.cost) {
+                    savings.push(saving)?;
+                }
+            }
+        }
+        Ok(())
+    }
+
+    /// The listed column that saves most now.
+    fn greatest_saving(&self, savings: &[Saving]) -> Option<Saving> {
+        let mut best: Option<Saving> = None;
+        for listed in savings {
+            if let Some(saving) = self.saving(listed.column) {
+                if best.is_none_or(|best| saving.cost.is_less(best.cost)) {
+                    best = Some(saving);
+                }
             }
         }
         best
+    }
+
+    /// The column that comes in: the one of the list that saves most, and of a new list where none of it saves; or, where the
+    /// cost stands still, the first that saves.
+    fn entering(
+        &mut self,
+        savings: &mut Vec<Saving>,
+        takes_first: bool,
+    ) -> Result<Option<Saving>, AllocError> {
+        if takes_first {
+            self.find_duals();
+            return Ok(self.first_saving());
+        }
+        if let Some(saving) = self.greatest_saving(savings.as_slice()) {
+            return Ok(Some(saving));
+        }
+        self.find_duals();
+        self.find_savings(savings)?;
+        Ok(self.greatest_saving(savings.as_slice()))
+    }
+
+    /// Brings the duals to a basis into which a column came whose unit saved so much, by its row's new line.
+    fn move_duals(&mut self, cost: Fixed, line: &[Fixed]) {
+        for (dual, value) in self.duals.iter_mut().zip(line.iter()) {
+            *dual = dual.plus(cost.times(*value));
+        }
     }
 
     /// What a unit of the column takes from the part of each row.
@@ -300,13 +366,13 @@ impl Program {
     pub fn solve(&mut self, alloc: Global) -> Result<(), AllocError> {
         let mut direction = Vec::new(alloc);
         let mut line = Vec::new(alloc);
+        let mut savings = Vec::new(alloc);
         let mut flat: u32 = 0;
         for _ in 0..MOST_STEPS {
-            self.find_duals();
-            let Some(column) = self.entering(flat > MOST_FLAT) else {
+            let Some(saving) = self.entering(&mut savings, flat > MOST_FLAT)? else {
                 return Ok(());
             };
-            self.find_direction(column, &mut direction)?;
+            self.find_direction(saving.column, &mut direction)?;
             let Some(leaving) = self.leaving(direction.as_slice()) else {
                 return Ok(());
             };
@@ -315,7 +381,8 @@ impl Program {
             } else {
                 flat.saturating_add(1)
             };
-            self.exchange(column, leaving, direction.as_slice(), &mut line)?;
+            self.exchange(saving.column, leaving, direction.as_slice(), &mut line)?;
+            self.move_duals(saving.cost, line.as_slice());
             self.lift_parts();
         }
         Ok(())

@@ -9,63 +9,59 @@ ghost use Rattle.orienteering.specs.Region.{is_forced, IsProper};
 ghost use Rattle.orienteering.specs.Replay.{is_critical_set, relaxation, replay};
 ghost use Rattle.orienteering.specs.Sigma.{sigma, undominated};
 ghost use Rattle.price_bound.specs.Magnitude.{IsWithin};
-ghost use Rattle.sweep_solver.specs.Rules.{bound_in};
 
-use crate::regions::{Regions, Replay};
+use crate::regions::Regions;
 use label_engine::{Outcome, ReplayFail, greatest};
-use orienteering::{Price, Tour};
+use orienteering::Price;
 use price_bound::bound;
 use region_ctx::Context;
 use std::alloc::{AllocError, Global};
 
-/// The value of a walk, and the walk, where there is one.
-fn parts_of(outcome: Outcome) -> (Option<i128>, Option<Tour>)
-    ensures { result.0 ≡ sigma_of outcome }
+/// The value of the walk, where there is one.
+fn value_of(outcome: Outcome) -> Option<i128>
+    ensures { result ≡ sigma_of outcome }
 {
     match outcome {
-        Outcome::NoWalk => (None, None),
-        Outcome::Best { sigma, walk } => (Some(sigma), Some(walk)),
+        Outcome::NoWalk => None,
+        Outcome::Best { sigma, .. } => Some(sigma),
     }
 }
 
-/// The greatest value of a relaxed walk with such a walk, where there is one.
-fn greatest_walk(
+/// The greatest value of a relaxed walk, where there is one.
+fn greatest_value(
     alloc: Global,
     regions: &Regions<'_>,
     ctx: &Context,
     price: &Price,
     critical: &[u32],
-) -> Result<(Option<i128>, Option<Tour>), ReplayFail>
+) -> Result<Option<i128>, ReplayFail>
     requires proper { IsProper regions.now.inst.now ctx.now }
     requires fit { IsFit (calls regions.now.inst.now) (is_forced ctx.now) price.now }
     requires set { is_critical_set (calls regions.now.inst.now) critical.now ≡ true }
-    ensures value { IfOk result (λ w. w.0 ≡ sigma regions.now.inst.now (relaxation ctx.now price.now critical.now)) }
-    ensures within { IfOk result (λ w. MatchOption w.0 (Unit {0}) (IsWithin (10 ^ 24))) }
+    ensures value { IfOk result (λ value. value ≡ sigma regions.now.inst.now (relaxation ctx.now price.now critical.now)) }
+    ensures within { IfOk result (λ value. MatchOption value (Unit {0}) (IsWithin (10 ^ 24))) }
     ensures few { OnOk result (length (undominated regions.now.inst.now (relaxation ctx.now price.now critical.now)) ≤ regions.now.labels) }
     ensures many { result ≡ Err ReplayFail.TooManyLabels → regions.now.labels < length (undominated regions.now.inst.now (relaxation ctx.now price.now critical.now)) }
 {
     let outcome = greatest(alloc, regions.inst, ctx, price, critical, regions.labels)?;
-    Ok(parts_of(outcome))
+    Ok(value_of(outcome))
 }
 
-/// Replays a cut: its bound with a walk of the greatest value, none where there are too many labels.
+/// The bound of a cut by its replay, none where there are too many labels.
 pub(crate) fn replay_cut(
     alloc: Global,
     regions: &Regions<'_>,
     ctx: &Context,
     price: &Price,
     critical: &[u32],
-) -> Result<Option<Replay>, AllocError>
+) -> Result<Option<i128>, AllocError>
     requires proper { IsProper regions.now.inst.now ctx.now }
     requires fit { IsFit (calls regions.now.inst.now) (is_forced ctx.now) price.now }
     requires set { is_critical_set (calls regions.now.inst.now) critical.now ≡ true }
-    ensures { IfOk result (λ r. bound_in r ≡ bound_of (replay regions.now.inst.now regions.now.labels ctx.now price.now critical.now)) }
+    ensures { IfOk result (λ b. b ≡ bound_of (replay regions.now.inst.now regions.now.labels ctx.now price.now critical.now)) }
 {
-    match greatest_walk(alloc, regions, ctx, price, critical) {
-        Ok((sigma, walk)) => {
-            let bound = bound(price, sigma, ctx);
-            Ok(Some(Replay { bound, walk }))
-        }
+    match greatest_value(alloc, regions, ctx, price, critical) {
+        Ok(sigma) => Ok(Some(bound(price, sigma, ctx))),
         Err(ReplayFail::TooManyLabels) => Ok(None),
         Err(ReplayFail::Memory) => Err(AllocError),
     }

@@ -102,14 +102,13 @@ fn begun(
     Ok(strategy)
 }
 
-/// Grows the open nodes of a tree. Where not all of them must be closed, boxes that need arcs are put off.
+/// Grows the open nodes of a tree.
 #[tactic(auto, using(growth::proofs::Archives::improves_same))]
-fn grow_round(
+fn grow(
     alloc: Global,
     regions: &Regions<'_>,
     archive: &mut Archive,
     strategy: &mut PricedStrategy,
-    must: bool,
     nodes: Vec<Node>,
     limit: Option<u64>,
 ) -> Result<Vec<Node>, AllocError>
@@ -118,14 +117,13 @@ fn grow_round(
     ensures archive { IsArchive regions.now.inst.now archive.new }
     ensures improved { Improves archive.old archive.new }
     ensures tree { IfOk result (λ grown. IsTreeWithin regions.now.inst.now regions.now.labels archive.new limit grown.items) }
-    ensures closed { IfOk result (λ grown. IsClosedWithin must limit grown.items) }
+    ensures closed { IfOk result (λ grown. IsClosedWithin limit grown.items) }
 {
-    strategy.puts_off = !must;
     let root = Context::root(alloc, regions.inst)?;
-    grow_certificate(alloc, regions, archive, strategy, must, root, nodes, limit)
+    grow_certificate(alloc, regions, archive, strategy, root, nodes, limit)
 }
 
-/// A tree that is grown from one open node. With a budget the boxes that need no arcs come first.
+/// A tree that is grown from one open node. With a budget, boxes are lifted before they wait for arcs.
 #[tactic(auto, using(growth::proofs::Archives::improves_same))]
 fn grown_tree(
     alloc: Global,
@@ -137,15 +135,12 @@ fn grown_tree(
     ensures archive { IsArchive regions.now.inst.now archive.new }
     ensures improved { Improves archive.old archive.new }
     ensures tree { IfOk result (λ grown. IsTreeWithin regions.now.inst.now regions.now.labels archive.new limit grown.items) }
-    ensures closed { IfOk result (λ grown. IsClosedWithin true limit grown.items) }
+    ensures closed { IfOk result (λ grown. IsClosedWithin limit grown.items) }
 {
     let mut strategy = begun(alloc, regions, archive)?;
+    strategy.lifts = limit.is_some();
     let tree = open_tree(alloc)?;
-    if limit.is_none() {
-        return grow_round(alloc, regions, archive, &mut strategy, true, tree, limit);
-    }
-    let begun = grow_round(alloc, regions, archive, &mut strategy, false, tree, limit)?;
-    grow_round(alloc, regions, archive, &mut strategy, true, begun, limit)
+    grow(alloc, regions, archive, &mut strategy, tree, limit)
 }
 
 /// A certificate of the instance that the checker accepts where a replay may keep `labels` undominated states. Its points

@@ -6,17 +6,21 @@ ghost use Rattle.std.specs.Prelude.{IfOk, IfSome};
 ghost use Rattle.growth.specs.Growth.{IsReplayed};
 ghost use Rattle.sweep_solver.specs.Rules.{rules_of, IsProperIn};
 
-use crate::aim::{split_at_points, split_high, split_low};
+use crate::aim::{split_at_points, split_low};
+use crate::aims::{
+    Aim, Run, hopes_of, longest_run, lower_hopes, middle, open_points, points_of, relative_miss,
+    split_between, values,
+};
 use crate::arcs::{Branching, Edge, choose_branching};
-use crate::corners::{Corner, corners};
+use crate::corners::{corners, trim};
+use crate::ladder::{ladder, lightened};
 use crate::leaf::leaf;
 use crate::learned::{Learned, improved, learn};
-use crate::master::PARTS;
-use crate::pricing::{Search, open_master, price_for};
+use crate::pricing::{Search, price_for, price_to_lift, reversed};
 use crate::regions::Regions;
 use front_archive::Archive;
 use growth::{Advice, Branch, Proposal, Strategy};
-use orienteering::{Box2, CutOnPath, Node, Plan, Point, Reason};
+use orienteering::{Box2, Node, Plan, Point, Reason};
 use pool_cols::Pool;
 use region_ctx::Context;
 use site_model::Instance;
@@ -33,9 +37,14 @@ pub(crate) struct PricedStrategy {
     is_reversible: bool,
     /// Arcs whose mirrors come next where they are banned.
     edges: Vec<Edge>,
-    /// Whether boxes that need arcs are put off.
-    pub puts_off: bool,
+    /// Whether boxes are lifted before they wait.
+    pub lifts: bool,
+    /// The least profits of the boxes that were lifted, with their greatest times.
+    lifted: Vec<Point>,
 }
+
+/// How many calls are taken out of a plan of the ladder.
+const MOST_TAKEN_OUT: u32 = 100;
 
 /// How many arcs with mirrors are kept.
 const MOST_EDGES: usize = 64;
@@ -51,147 +60,6 @@ fn is_reversible(inst: &Instance) -> bool {
     })
 }
 
-/// An open corner, and the master's value at it.
-#[derive(Clone, Copy, Debug, PartialEq, Eq)]
-struct Aim {
-    point: Point,
-    value: i64,
-}
-
-/// A run of corners from one place to before another.
-#[derive(Clone, Copy, Debug, PartialEq, Eq)]
-struct Run {
-    begin: usize,
-    end: usize,
-}
-
-/// The longest run of hopes.
-fn longest_run(hopes: &[bool]) -> Option<Run> {
-    let mut best: Option<Run> = None;
-    let mut begin = 0;
-    for (place, hope) in hopes.iter().enumerate() {
-        if !*hope {
-            begin = place.saturating_add(1);
-            continue;
-        }
-        let end = place.saturating_add(1);
-        let length = end.saturating_sub(begin);
-        let is_longer = match best {
-            None => true,
-            Some(best) => best.end.saturating_sub(best.begin) < length,
-        };
-        if is_longer {
-            best = Some(Run { begin, end });
-        }
-    }
-    best
-}
-
-/// Forgets the hopes from a place on, to before another.
-fn forget(hopes: &mut Vec<bool>, begin: usize, end: usize) {
-    for (place, hope) in hopes.iter_mut().enumerate() {
-        if begin <= place && place < end {
-            *hope = false;
-        }
-    }
-}
-
-/// The master's value at each of the points alone.
-fn values(
-    alloc: Global,
-    search: &Search<'_>,
-    pool: &Pool,
-    points: &[Point],
-) -> Result<Vec<Aim>, AllocError> {
-    let mut master = open_master(alloc, search, pool, points)?;
-    let mut aims = Vec::new(alloc);
-    for (place, point) in points.iter().enumerate() {
-        master.focus(place, point.time);
-        let value = master.solve(alloc)?;
-        aims.push(Aim {
-            point: *point,
-            value,
-        })?;
-    }
-    Ok(aims)
-}
-
-/// The points of the open corners.
-fn open_points(alloc: Global, found: &[Corner]) -> Result<Vec<Point>, AllocError> {
-    let mut points = Vec::new(alloc);
-    for corner in found {
-        if corner.is_open {
-            points.push(Point {
-                profit: corner.profit,
-                time: corner.time,
-            })?;
-        }
-    }
-    Ok(points)
-}
-
-/// A split of what the bounds of cuts close at the ends of the box.
-fn trim(cuts: &[CutOnPath], area: Box2, found: &[Corner]) -> Option<Node> {
-    if found.first().is_none_or(|corner| !corner.is_open) {
-        if let Some(node) = split_low(cuts, area) {
-            return Some(node);
-        }
-    }
-    if found.last().is_none_or(|corner| !corner.is_open) {
-        return split_high(cuts, area);
-    }
-    None
-}
-
-/// The time in parts.
-fn parts(time: u64) -> i64 {
-    (time.min(1_000_000_000) as i64).saturating_mul(PARTS)
-}
-
-/// How far the box of the corners from one to another is from being closed.
-fn miss(first: Aim, last: Aim) -> i64 {
-    let reach = first.value.saturating_add(parts(first.point.time));
-    parts(last.point.time).saturating_sub(reach)
-}
-
-/// The corner at which a split by profit leaves the least miss on both sides.
-fn middle(aims: &[Aim]) -> Option<Point> {
-    let first = *aims.first()?;
-    let last = *aims.last()?;
-    let mut best: Option<(i64, Point)> = None;
-    let mut before = first;
-    for aim in aims.iter().skip(1) {
-        let greater = miss(first, before).max(miss(*aim, last));
-        let is_less = match best {
-            None => true,
-            Some((least, _)) => greater < least,
-        };
-        if is_less {
-            best = Some((greater, aim.point));
-        }
-        before = *aim;
-    }
-    let (_, point) = best?;
-    Some(point)
-}
-
-/// A split by profit, where the worst corner misses by less than half of what the box misses.
-fn split_between(aims: &[Aim]) -> Option<Node> {
-    let first = *aims.first()?;
-    let last = *aims.last()?;
-    let worst = aims
-        .iter()
-        .map(|aim| aim.value.saturating_neg())
-        .fold(i64::MIN, |worst, miss| worst.max(miss));
-    if worst < miss(first, last) / 2 {
-        let point = middle(aims)?;
-        return Some(Node::Profit {
-            v: point.profit.saturating_sub(1),
-        });
-    }
-    None
-}
-
 impl PricedStrategy {
     pub(crate) fn new(
         alloc: Global,
@@ -203,12 +71,13 @@ impl PricedStrategy {
             root,
             is_reversible: is_reversible(inst),
             edges: Vec::new(alloc),
-            puts_off: false,
+            lifts: false,
+            lifted: Vec::new(alloc),
         })
     }
 
-    /// Puts the tours of the listed plans into the pool, as they are and after moves that save time, and answers the better
-    /// plans that they make.
+    /// Puts the tours of the listed plans and of a ladder of plans into the pool, as they are and after moves that save time,
+    /// and answers the better plans that they make.
     pub(crate) fn begin(
         &mut self,
         alloc: Global,
@@ -216,20 +85,40 @@ impl PricedStrategy {
         archive: &Archive,
     ) -> Result<Vec<Plan>, AllocError> {
         let mut learned = Learned::of(alloc, archive)?;
-        let mut better = Vec::new(alloc);
         for listed in archive.points() {
             self.learn_plan(alloc, regions, archive, &mut learned, &listed.plan)?;
             if let Some(plan) = improved(alloc, regions, &listed.plan)? {
                 self.learn_plan(alloc, regions, archive, &mut learned, &plan)?;
-                better.push(plan)?;
             }
         }
-        for plan in learned.plans {
-            better.push(plan)?;
+        for plan in ladder(alloc, regions, self.root)? {
+            self.take_apart(alloc, regions, archive, &mut learned, plan)?;
         }
-        Ok(better)
+        Ok(learned.plans)
     }
 
+    /// Learns the plan, and what is left of it as its dearest calls are taken out one by one.
+    fn take_apart(
+        &mut self,
+        alloc: Global,
+        regions: &Regions<'_>,
+        archive: &Archive,
+        learned: &mut Learned,
+        plan: Plan,
+    ) -> Result<(), AllocError> {
+        self.learn_plan(alloc, regions, archive, learned, &plan)?;
+        let mut left = plan;
+        for _ in 0..MOST_TAKEN_OUT {
+            match lightened(alloc, regions, &left)? {
+                Some(rest) => left = rest,
+                None => return Ok(()),
+            }
+            self.learn_plan(alloc, regions, archive, learned, &left)?;
+        }
+        Ok(())
+    }
+
+    /// Learns the plan and its tours, both ways round where they may be travelled so.
     fn learn_plan(
         &mut self,
         alloc: Global,
@@ -238,59 +127,93 @@ impl PricedStrategy {
         learned: &mut Learned,
         plan: &Plan,
     ) -> Result<(), AllocError> {
+        learned.learn_plan(alloc, regions, plan)?;
         for tour in plan.tours() {
-            let tour = tour.copy(alloc)?;
-            learn(alloc, regions, archive, &mut self.pool, learned, tour)?;
+            let copy = tour.copy(alloc)?;
+            learn(alloc, regions, archive, &mut self.pool, learned, copy)?;
+            if self.is_reversible {
+                let back = reversed(alloc, tour.calls())?;
+                learn(alloc, regions, archive, &mut self.pool, learned, back)?;
+            }
         }
         Ok(())
     }
 
-    /// A cut for the longest run of corners that the tours leave hope for, else for a part of it, else for others.
+    /// A cut that leaves out the whole box.
+    fn cut_of_box(
+        &mut self,
+        alloc: Global,
+        search: &Search<'_>,
+        branch: &Branch<Context>,
+        area: Box2,
+        learned: &mut Learned,
+    ) -> Result<Option<Proposal>, AllocError>
+        requires { IsProperIn search.now.regions.now search.now.ctx.now }
+        ensures { IfOk result (λ found. IfSome found (IsReplayed (rules_of search.now.regions.now) search.now.ctx.now)) }
+    {
+        if branch.is_under_cut() {
+            return Ok(None);
+        }
+        let whole = [Point {
+            profit: area.p_lo,
+            time: area.t_hi,
+        }];
+        price_for(alloc, search, &mut self.pool, learned, &whole)
+    }
+
+    /// A cut for a run of corners. Where there is none, the hopes are lowered.
     fn cut_of_run(
         &mut self,
         alloc: Global,
         search: &Search<'_>,
         learned: &mut Learned,
         aims: &[Aim],
+        run: Run,
+        hopes: &mut Vec<bool>,
     ) -> Result<Option<Proposal>, AllocError>
         requires { IsProperIn search.now.regions.now search.now.ctx.now }
         ensures { IfOk result (λ found. IfSome found (IsReplayed (rules_of search.now.regions.now) search.now.ctx.now)) }
     {
         let known = learned.plans.len();
-        let mut hopes = Vec::new(alloc);
-        for aim in aims {
-            hopes.push(aim.value > 1)?;
+        let targets = points_of(alloc, aims, run)?;
+        let cut = price_for(alloc, search, &mut self.pool, learned, targets.as_slice())?;
+        if cut.is_none() && learned.plans.len() == known {
+            let again = values(alloc, search, &self.pool, targets.as_slice())?;
+            lower_hopes(hopes, run, again.as_slice());
         }
+        Ok(cut)
+    }
+
+    /// A cut for the longest run of corners that the tours leave hope for, else for a part of it, else for others.
+    fn cut_of_corners(
+        &mut self,
+        alloc: Global,
+        search: &Search<'_>,
+        branch: &Branch<Context>,
+        learned: &mut Learned,
+        aims: &[Aim],
+    ) -> Result<Option<Proposal>, AllocError>
+        requires { IsProperIn search.now.regions.now search.now.ctx.now }
+        ensures { IfOk result (λ found. IfSome found (IsReplayed (rules_of search.now.regions.now) search.now.ctx.now)) }
+    {
+        if branch.is_under_cut() || aims.len() < 2 {
+            return Ok(None);
+        }
+        let known = learned.plans.len();
+        let mut hopes = hopes_of(alloc, aims)?;
         for _ in 0..MOST_LOOKS {
             let Some(run) = longest_run(hopes.as_slice()) else {
                 return Ok(None);
             };
-            let mut targets = Vec::new(alloc);
-            for aim in aims.iter().take(run.end).skip(run.begin) {
-                targets.push(aim.point)?;
-            }
-            let cut = price_for(alloc, search, &mut self.pool, learned, targets.as_slice())?;
+            let cut = self.cut_of_run(alloc, search, learned, aims, run, &mut hopes)?;
             if cut.is_some() || learned.plans.len() != known {
                 return Ok(cut);
-            }
-            let again = values(alloc, search, &self.pool, targets.as_slice())?;
-            let mut is_none = true;
-            for (place, aim) in again.iter().enumerate() {
-                if aim.value <= 1 {
-                    let at = run.begin.saturating_add(place);
-                    forget(&mut hopes, at, at.saturating_add(1));
-                    is_none = false;
-                }
-            }
-            if is_none {
-                let half = run.end.saturating_sub(run.begin) / 2;
-                forget(&mut hopes, run.begin.saturating_add(half), run.end);
             }
         }
         Ok(None)
     }
 
-    /// What to do at a box whose corners aren't closed.
+    /// What to do at a box, where its corners aren't closed.
     fn choice(
         &mut self,
         alloc: Global,
@@ -304,13 +227,8 @@ impl PricedStrategy {
     {
         let known = learned.plans.len();
         let found = corners(alloc, learned.points.as_slice(), branch.cuts(), area)?;
-        let open = open_points(alloc, found.as_slice())?;
-        if !open.is_empty() && !branch.is_under_cut() {
-            let whole = [Point {
-                profit: area.p_lo,
-                time: area.t_hi,
-            }];
-            let cut = price_for(alloc, search, &mut self.pool, learned, &whole)?;
+        if found.iter().any(|corner| corner.is_open) {
+            let cut = self.cut_of_box(alloc, search, branch, area, learned)?;
             if cut.is_some() || learned.plans.len() != known {
                 return Ok(cut);
             }
@@ -321,23 +239,96 @@ impl PricedStrategy {
         if let Some(node) = trim(branch.cuts(), area, found.as_slice()) {
             return Ok(Some(Proposal::Plain(node)));
         }
-        let aims = values(alloc, search, &self.pool, open.as_slice())?;
-        if !branch.is_under_cut() && aims.len() > 1 {
-            let cut = self.cut_of_run(alloc, search, learned, aims.as_slice())?;
-            if cut.is_some() || learned.plans.len() != known {
-                return Ok(cut);
-            }
+        let open = open_points(alloc, found.as_slice())?;
+        self.choice_at_corners(alloc, search, branch, area, learned, open.as_slice())
+    }
+
+    /// What to do at a box whose ends are trimmed.
+    fn choice_at_corners(
+        &mut self,
+        alloc: Global,
+        search: &Search<'_>,
+        branch: &Branch<Context>,
+        area: Box2,
+        learned: &mut Learned,
+        open: &[Point],
+    ) -> Result<Option<Proposal>, AllocError>
+        requires { IsProperIn search.now.regions.now search.now.ctx.now }
+        ensures { IfOk result (λ found. IfSome found (IsReplayed (rules_of search.now.regions.now) search.now.ctx.now)) }
+    {
+        let known = learned.plans.len();
+        let aims = values(alloc, search, &self.pool, open)?;
+        let cut = self.cut_of_corners(alloc, search, branch, learned, aims.as_slice())?;
+        if cut.is_some() || learned.plans.len() != known {
+            return Ok(cut);
         }
-        if aims.len() > 1 {
-            if let Some(node) = split_between(aims.as_slice()) {
-                return Ok(Some(Proposal::Plain(node)));
-            }
+        if let Some(node) = split_between(aims.as_slice()) {
+            return Ok(Some(Proposal::Plain(node)));
         }
-        if self.puts_off {
-            return Ok(Some(Proposal::Later));
+        if search.may_wait {
+            return self.lift_or_wait(alloc, search, branch, area, learned, aims.as_slice());
         }
-        let node = self.branch(alloc, search, open.as_slice(), aims.as_slice())?;
+        let node = self.branch(alloc, search, open, aims.as_slice())?;
         Ok(Some(Proposal::Plain(node)))
+    }
+
+    /// Puts off a box that needs arcs, once it is lifted.
+    fn lift_or_wait(
+        &mut self,
+        alloc: Global,
+        search: &Search<'_>,
+        branch: &Branch<Context>,
+        area: Box2,
+        learned: &mut Learned,
+        aims: &[Aim],
+    ) -> Result<Option<Proposal>, AllocError>
+        requires { IsProperIn search.now.regions.now search.now.ctx.now }
+        ensures { IfOk result (λ found. IfSome found (IsReplayed (rules_of search.now.regions.now) search.now.ctx.now)) }
+    {
+        let known = learned.plans.len();
+        if self.lifts {
+            let lift = self.lift(alloc, search, branch, area, learned)?;
+            if lift.is_some() || learned.plans.len() != known {
+                return Ok(lift);
+            }
+        }
+        Ok(Some(Proposal::Later {
+            miss: relative_miss(aims),
+        }))
+    }
+
+    /// What leaves out the low end of the box, once: a cut that reaches as far as it can, though it closes nothing, and a
+    /// split at its reach.
+    fn lift(
+        &mut self,
+        alloc: Global,
+        search: &Search<'_>,
+        branch: &Branch<Context>,
+        area: Box2,
+        learned: &mut Learned,
+    ) -> Result<Option<Proposal>, AllocError>
+        requires { IsProperIn search.now.regions.now search.now.ctx.now }
+        ensures { IfOk result (λ found. IfSome found (IsReplayed (rules_of search.now.regions.now) search.now.ctx.now)) }
+    {
+        if branch.is_under_cut() {
+            return match split_low(branch.cuts(), area) {
+                Some(node) => Ok(Some(Proposal::Plain(node))),
+                None => Ok(None),
+            };
+        }
+        let corner = Point {
+            profit: area.p_lo,
+            time: area.t_hi,
+        };
+        if self.lifted.contains(&corner) {
+            return Ok(None);
+        }
+        let known = learned.plans.len();
+        let cut = price_to_lift(alloc, search, &mut self.pool, learned, area)?;
+        if learned.plans.len() == known {
+            self.lifted.push(corner)?;
+        }
+        Ok(cut)
     }
 
     /// The mirror of an arc that is banned here, where it comes next.
@@ -406,6 +397,7 @@ fn propose(
     regions: &Regions<'_>,
     branch: &Branch<Context>,
     archive: &Archive,
+    may_wait: bool,
     learned: &mut Learned,
 ) -> Result<Proposal, AllocError>
     requires { IsProperIn regions.now branch.now.region }
@@ -426,6 +418,7 @@ fn propose(
         archive,
         root: strategy.root,
         is_reversible: strategy.is_reversible,
+        may_wait,
     };
     for _ in 0..MOST_LOOKS {
         let best = Point {
@@ -453,9 +446,18 @@ impl Strategy<Regions<'_>> for PricedStrategy {
         regions: &Regions<'_>,
         branch: &Branch<Context>,
         archive: &Archive,
+        may_wait: bool,
     ) -> Result<Advice, AllocError> {
         let mut learned = Learned::of(alloc, archive)?;
-        let proposal = propose(self, alloc, regions, branch, archive, &mut learned)?;
+        let proposal = propose(
+            self,
+            alloc,
+            regions,
+            branch,
+            archive,
+            may_wait,
+            &mut learned,
+        )?;
         Ok(Advice {
             plans: learned.plans,
             proposal,

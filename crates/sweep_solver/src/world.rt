@@ -62,10 +62,7 @@ impl Regions<'_> {
         requires set { (rules_of self.now).is_critical_set ctx.now critical.now ≡ true }
         ensures { IfOk result (λ b. b ≡ bound_of ((rules_of self.now).replay ctx.now price.now critical.now)) }
     {
-        match replay_cut(alloc, self, ctx, price, critical.calls())? {
-            None => Ok(None),
-            Some(replay) => Ok(Some(replay.bound)),
-        }
+        replay_cut(alloc, self, ctx, price, critical.calls())
     }
 
     /// A way to go on with the region that always serves.

@@ -11,8 +11,8 @@ abbrev pub invariant-loop-node : goal.invariant-loop-node
 invariant-loop-node g l = record {
   regrowing : (old : List (Leaf (Branch g.row.W-Region.Denot) Node)) →
       IsTree (node_step (g.W.World.rules l.world) l.initial.archive) l.fn.root (reverse l.initial.behind.items) old →
-      Regrowing l.must (g.W.World.rules l.world) (g.W.World.proper l.world) l.archive l.fn.root l.limit old
-      l.nodes.items l.behind.items l.pending.items;
+      Regrowing (g.W.World.rules l.world) (g.W.World.proper l.world) l.archive l.fn.root l.limit old
+      l.nodes.items l.behind.items l.pending.items l.waiting.items;
   archive : IsArchive (g.W.World.problem l.world) l.archive;
   improved : Improves l.initial.archive l.archive;
 }

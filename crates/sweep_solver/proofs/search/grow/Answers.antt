@@ -9,7 +9,7 @@ use Rattle.orienteering.proofs.SplitLaws.{root_is_proper}
 use Rattle.growth.specs.Growth.{Continues}
 use Rattle.growth.proofs.Continuing.{if_ok}
 use Rattle.sweep_solver.specs.Trees.{IsClosedWithin, IsTreeWithin}
-use Rattle.sweep_solver.proofs.search.grow_round.Goals as goal
+use Rattle.sweep_solver.proofs.search.grow.Goals as goal
 
 pub grow_certificate-requires-clause-proper : goal.grow_certificate-requires-clause-proper
 grow_certificate-requires-clause-proper c =
@@ -34,7 +34,7 @@ returns-clause-tree c =
     let points = c.grow_certificate.new.archive in
     if_ok c.grow_certificate.result
     (λ grown. (leaves : List (Leaf (Branch Region) Node)) → read_nodes rules c.args.archive.now root c.args.nodes.items ≡ Ok leaves →
-    Continues c.args.must rules points root c.args.limit leaves grown.items)
+    Continues rules points root c.args.limit leaves grown.items)
     (λ grown. IsTreeWithin p c.args.regions.now.labels points c.args.limit grown.items)
     (λ grown continues. let g = continues tree.leaves old in record {
       leaves = g.leaves;
@@ -53,7 +53,7 @@ returns-clause-closed c =
     let points = c.grow_certificate.new.archive in
     if_ok c.grow_certificate.result
     (λ grown. (leaves : List (Leaf (Branch Region) Node)) → read_nodes rules c.args.archive.now root c.args.nodes.items ≡ Ok leaves →
-    Continues c.args.must rules points root c.args.limit leaves grown.items)
-    (λ grown. IsClosedWithin c.args.must c.args.limit grown.items)
+    Continues rules points root c.args.limit leaves grown.items)
+    (λ grown. IsClosedWithin c.args.limit grown.items)
     (λ grown continues. (continues tree.leaves old).closed)
     c.grow_certificate.ensures.grown
