@@ -100,7 +100,7 @@ fn words_stop_at_the_farthest(rt: HostRuntime) {
 
 #[test]
 fn a_cursor_moves_and_stops(rt: HostRuntime) {
-    let mut cursor = Cursor::new(b"row 12 -7\n45");
+    let mut cursor = Cursor::new(b"day 12 -7\n45");
     let syntax = |at| TextStop {
         at,
         cause: TextCause::Syntax,
@@ -109,7 +109,7 @@ fn a_cursor_moves_and_stops(rt: HostRuntime) {
         at,
         cause: TextCause::End,
     };
-    assert_eq!(rt; cursor.word(b"row "), Ok(()));
+    assert_eq!(rt; cursor.word(b"day "), Ok(()));
     assert_eq!(rt; cursor.number(31), Ok(12));
     assert_eq!(rt; cursor.at(), 6);
     assert_eq!(rt; cursor.number(31), Err(syntax(6)));
