@@ -7,3 +7,5 @@ pub mod Worth
 pub mod WorthLaws
 pub mod Critical
 pub mod CriticalLaws
+pub mod Flags
+pub mod FlagsLaws

@@ -33,7 +33,7 @@ impl<A: Resource, B: Resource> Resource for Pair<A, B> {
     }
 
     fn leq(&self, other: &Pair<A, B>) -> bool {
-        self.a.leq(&other.a) && self.b.leq(&other.b)
+        self.a.leq(&other.a) & self.b.leq(&other.b)
     }
 
     fn copy(&self) -> Pair<A, B> {

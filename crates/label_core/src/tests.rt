@@ -1,6 +1,7 @@
 ghost use Rattle.label_core.specs.Critical.{IsMark};
+ghost use Rattle.label_core.specs.Flags.{IsFlag};
 
-use crate::{Clock, ClockStep, Critical, Gain, Mark, Pair, PairStep, Resource, Worth};
+use crate::{Clock, ClockStep, Critical, Flag, Flags, Gain, Mark, Pair, PairStep, Resource, Worth};
 use bit_sets::Bits;
 use std::alloc::Global;
 use std::test::Fail;
@@ -64,6 +65,50 @@ fn walks_carry_three_resources(rt: HostRuntime) -> Result<(), Fail> {
     );
     let copy = walk.copy();
     assert!(rt; copy.leq(&walk) && walk.leq(&copy));
+    Ok(())
+}
+
+type WordWalk = Pair<Clock, Flags>;
+
+fn word_step_to(number: Option<u32>) -> PairStep<ClockStep, Flag>
+    requires { IsFlag number }
+{
+    PairStep {
+        a: ClockStep {
+            travel: 0,
+            opening: 0,
+            closing: 20,
+        },
+        b: Flag { number },
+    }
+}
+
+// A walk with its critical calls in one word: the greatest number is held once, and a set is better than one that has more.
+#[test]
+fn walks_carry_critical_calls_in_a_word(rt: HostRuntime) -> Result<(), Fail> {
+    let before = Pair {
+        a: Clock { at: 3 },
+        b: Flags::none(),
+    };
+    let last = word_step_to(Some(63));
+    WordWalk::tell_step(&last);
+    let walk = before.extend(&last).ok_or("no step")?;
+    walk.tell();
+    assert_eq!(rt; walk.b.word, 0x8000_0000_0000_0000);
+    assert!(rt; walk.extend(&last).is_none(), "visited again");
+    let longer = walk.extend(&word_step_to(Some(0))).ok_or("no step")?;
+    assert_eq!(rt; longer.b.word, 0x8000_0000_0000_0001);
+    assert!(rt;
+        before.leq(&walk) && walk.leq(&longer) && !longer.leq(&walk),
+        "the fewer the better"
+    );
+    let other = before.extend(&word_step_to(Some(62))).ok_or("no step")?;
+    assert!(rt;
+        !other.leq(&longer) && !longer.leq(&other),
+        "one is held by each alone"
+    );
+    let moved = longer.extend(&word_step_to(None)).ok_or("no step")?;
+    assert!(rt; moved.leq(&longer.copy()) && longer.leq(&moved));
     Ok(())
 }
 
