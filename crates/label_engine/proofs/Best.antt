@@ -1,14 +1,14 @@
 -- The best of the settled labels that can go to the end has the greatest value of a relaxed walk.
-use Rattle.std.proofs.Common.{◌≡◌, ℕ, suc, ◌+◌, ◌*◌, ◌<◌, ◌≤◌, ⊎_elim, Bool, true, false, List, [], ◌∷◌, ◌++◌, length, get_or, take, Option, None, Some, ℤ, pos, ◌+ℤ◌, ◌≤ℤ◌, refl, sym, ap, ◌∙◌, subst, arith, length-append, length-take-le}
+use Rattle.std.proofs.Common.{◌≡◌, ℕ, ◌+◌, ◌*◌, ◌<◌, ◌≤◌, ⊎_elim, true, false, List, [], ◌∷◌, ◌++◌, length, get_or, take, Option, None, Some, ℤ, pos, ◌+ℤ◌, ◌≤ℤ◌, refl, sym, ap, ◌∙◌, subst, arith, length-append, length-take-le}
 use Rattle.std.specs.Prelude.{int_le, unsigned_abs}
-use Rattle.std.specs.List.{All, Any}
-use Rattle.std.specs.Option.{option_map, MatchOption}
+use Rattle.std.specs.List.{All}
+use Rattle.std.specs.Option.{option_map}
 use Rattle.std.proofs.Math.Nat.{suc-mul, mul-le-mul_right}
 use Rattle.std.proofs.lemmas.Bool.{cases_lt, cond_both}
 use Rattle.std.proofs.lemmas.Int.{ints}
 use Rattle.std.proofs.lemmas.List.{get_or_append_left, get_or_push, take_more}
 use Rattle.std.proofs.lemmas.List.Elements.{All-nil, All-push, All-weaker}
-use Rattle.std.proofs.lemmas.Option.{none-some, same_Some, get_or_from_slice_get, slice_get-get_or}
+use Rattle.std.proofs.lemmas.Option.{none-some, same_Some, get_or_from_slice_get}
 use Rattle.label_core.specs.Worth.{most}
 use Rattle.label_engine.specs.Front.{State, IsFrontState}
 use Rattle.label_engine.specs.Settled.{state_of, IsSettled, IsFrontOf, HasMoreThan}
@@ -16,10 +16,9 @@ use Rattle.label_engine.specs.Cut.{CutValue, cut_rules, cut_moves, IsBounded, Cu
 use Rattle.label_engine.specs.Greatest.{IsAtCall, value_of, IsBestAt, IsBest, better, IsWalkOf}
 use Rattle.label_engine.specs.declared.label.Label.{Label}
 use Rattle.label_engine.specs.declared.replay.Closed.{Closed}
-use Rattle.label_engine.proofs.CutFronts.{Along}
 use Rattle.label_engine.proofs.CutLimits.{bounded, cut_laws, fitting, most_step}
 use Rattle.label_engine.proofs.CutStates.{more_seen, more_labelled}
-use Rattle.label_engine.proofs.CutWalks.{origin, relaxed_from_front}
+use Rattle.label_engine.proofs.CutWalks.{relaxed_from_front}
 use Rattle.label_engine.proofs.Fronts.{Bounded, bounded as known_state}
 use Rattle.label_engine.proofs.Rivals.{some_at}
 use Rattle.label_engine.proofs.Sigma.{closed_walk, sigma}

@@ -1,17 +1,17 @@
 -- The bucket of a call: taking a label into it is offering the label to all labels.
-use Rattle.std.proofs.Common.{◌≡◌, ℕ, ◌+◌, ◌<◌, ◌≤◌, ◌⊎◌, ⊎_elim, inl, inr, Bool, true, false, not, ◌&&◌, ◌||◌, nat_le, cond, List, [], ◌∷◌, ◌++◌, length, get_or, take, drop, Option, None, Some, refl, sym, ap, ◌∙◌, subst, arith, append-nil, length-drop, get_or-drop, ◌-◌}
-use Rattle.std.specs.List.{All, AllPairs, Contains, filter, list_any, slice_get}
+use Rattle.std.proofs.Common.{◌≡◌, ℕ, ◌+◌, ◌<◌, ◌≤◌, ◌⊎◌, ⊎_elim, inl, inr, Bool, true, false, not, ◌&&◌, ◌||◌, nat_le, cond, List, [], ◌∷◌, ◌++◌, length, get_or, Option, None, Some, refl, sym, ap, ◌∙◌, subst, arith, append-nil, length-drop, get_or-drop, ◌-◌}
+use Rattle.std.specs.List.{All, AllPairs, filter, list_any, slice_get}
 use Rattle.std.specs.Option.{option_map, MatchOption}
-use Rattle.std.proofs.lemmas.Bool.{eq-eqb, le-leb, not_from_false, false_from_ne_true, cases_Bool, cases_lt, cond_both, cond-true}
+use Rattle.std.proofs.lemmas.Bool.{eq-eqb, le-leb, not_from_false, false_from_ne_true, cases_Bool, cases_lt, cond_both}
 use Rattle.std.proofs.lemmas.List.{get_or_default}
 use Rattle.std.proofs.lemmas.List.Elements.{All-nil, All-weaker, All-contains, Contains-push, Contains-append_left}
 use Rattle.std.proofs.lemmas.List.Folds.{Any-from_list_any}
 use Rattle.std.proofs.lemmas.Option.{none-some, same_Some, slice_get-get_or}
 use Rattle.label_core.specs.Resource.{Rules, Laws}
-use Rattle.label_engine.specs.Front.{MoveRules, State, IsCallOf, GivesFitting, begun, moved, covers}
+use Rattle.label_engine.specs.Front.{MoveRules, State, IsCallOf, GivesFitting, begun, moved}
 use Rattle.label_engine.specs.Settled.{Covered, state_of, IsExtended}
 use Rattle.label_engine.specs.Offer.{labelled, stepped_label, label_covers, is_better, beats, offered, taken}
-use Rattle.label_engine.specs.Layer.{Apart, IsLastLayer, IsReached, Whole, IsNew, IsNewAt, Growing, Tried, Bucket}
+use Rattle.label_engine.specs.Layer.{Apart, IsLastLayer, IsReached, Whole, IsNew, IsNewAt, Growing, Bucket}
 use Rattle.label_engine.specs.Rivals.{AreRivals}
 use Rattle.label_engine.specs.declared.label.Label.{Label}
 use Rattle.label_engine.proofs.Covering.{mapped, move_parts, cover_parts, covers_reflexive, covers_transitive}
@@ -41,15 +41,15 @@ module _ {R S : Type 0} (rules : Rules R S) where
       ap (λ t. t && is_better rules a b) (le-leb a.hops b.hops (omega arith))
 
   -- taking a label into the bucket is offering it to the labels before and the bucket
-  taken_behind : (old bucket : List (Label R)) (rivals : List ℕ) (c : Label R) → list_any (λ k. label_covers rules k c) old ≡ list_any (beats rules old c.state) rivals → All (λ k. label_covers rules c k ≡ false) old → All (λ k. label_covers rules k c ≡ is_better rules k c) bucket → All (λ k. label_covers rules c k ≡ is_better rules c k) bucket → old ++ taken rules old rivals bucket (Some c) ≡ offered (label_covers rules) (old ++ bucket) c
+  taken_behind : (old bucket : List (Label R)) (rivals : List R) (c : Label R) → list_any (λ k. label_covers rules k c) old ≡ list_any (beats rules c.state) rivals → All (λ k. label_covers rules c k ≡ false) old → All (λ k. label_covers rules k c ≡ is_better rules k c) bucket → All (λ k. label_covers rules c k ≡ is_better rules c k) bucket → old ++ taken rules rivals bucket (Some c) ≡ offered (label_covers rules) (old ++ bucket) c
   taken_behind old bucket rivals c rivalled spared over under =
-      let beaten = list_any (beats rules old c.state) rivals in
+      let beaten = list_any (beats rules c.state) rivals in
       let some_old = list_any (λ k. label_covers rules k c) old in
       let some_new = list_any (λ k. label_covers rules k c) bucket in
       let left = filter (λ k. not (label_covers rules c k)) bucket in
       let some : list_any (λ k. is_better rules k c) bucket ≡ some_new = sym (list_any_agrees (λ k. label_covers rules k c) (λ k. is_better rules k c) bucket over) in
       let rest : filter (λ k. not (is_better rules c k)) bucket ≡ left = sym (filter_agrees (λ k. not (label_covers rules c k)) (λ k. not (is_better rules c k)) bucket (All-weaker (λ k. label_covers rules c k ≡ is_better rules c k) (λ k. not (label_covers rules c k) ≡ not (is_better rules c k)) (λ k e. ap not e) bucket under)) in
-      let made : taken rules old rivals bucket (Some c) ≡ cond (some_old || some_new) bucket (left ++ c ∷ []) =
+      let made : taken rules rivals bucket (Some c) ≡ cond (some_old || some_new) bucket (left ++ c ∷ []) =
       ap (λ b. cond b bucket (offered (is_better rules) bucket c)) (sym rivalled) ∙
       ap (λ b. cond some_old bucket (cond b bucket (filter (λ k. not (is_better rules c k)) bucket ++ c ∷ []))) some ∙
       ap (λ l. cond some_old bucket (cond some_new bucket (l ++ c ∷ []))) rest ∙
@@ -57,9 +57,9 @@ module _ {R S : Type 0} (rules : Rules R S) where
       ap (λ l. old ++ l) made ∙ sym (offered-behind (label_covers rules) old bucket c spared)
 
   -- what holds of the bucket and of a label holds of the bucket after it
-  All-taken : (P : Label R → Type 0) (old bucket : List (Label R)) (rivals : List ℕ) (c : Label R) → All P bucket → P c → All P (taken rules old rivals bucket (Some c))
-  All-taken P old bucket rivals c h p =
-      cond_both (list_any (beats rules old c.state) rivals) bucket (offered (is_better rules) bucket c) (All P) (λ _. h) (λ _. All-offered (is_better rules) P bucket c h p)
+  All-taken : (P : Label R → Type 0) (bucket : List (Label R)) (rivals : List R) (c : Label R) → All P bucket → P c → All P (taken rules rivals bucket (Some c))
+  All-taken P bucket rivals c h p =
+      cond_both (list_any (beats rules c.state) rivals) bucket (offered (is_better rules) bucket c) (All P) (λ _. h) (λ _. All-offered (is_better rules) P bucket c h p)
 
   module _ (moves : MoveRules R S) {Fits : R → Type 0} {FitsStep : S → Type 0} (laws : Laws rules Fits FitsStep) (fitting : GivesFitting Fits FitsStep moves) where
     -- what was covered stays covered when a label is offered
@@ -163,7 +163,7 @@ module _ {R S : Type 0} (rules : Rules R S) where
           moves_on,
         )
 
-    bucket_offered : (hops start : ℕ) (old bucket : List (Label R)) (rivals : List ℕ) (to place : ℕ) (from label : Label R) → Whole rules moves hops old → Bucket rules moves Fits hops start old bucket to place → AreRivals rules old to rivals → place < length old → from ≡ get_or old place from → IsNewAt rules moves hops old to label → moved rules moves (state_of from) to ≡ Some (state_of label) → Bucket rules moves Fits hops start old (taken rules old rivals bucket (Some label)) to (place + 1)
+    bucket_offered : (hops start : ℕ) (old bucket : List (Label R)) (rivals : List R) (to place : ℕ) (from label : Label R) → Whole rules moves hops old → Bucket rules moves Fits hops start old bucket to place → AreRivals rules old to rivals → place < length old → from ≡ get_or old place from → IsNewAt rules moves hops old to label → moved rules moves (state_of from) to ≡ Some (state_of label) → Bucket rules moves Fits hops start old (taken rules rivals bucket (Some label)) to (place + 1)
     bucket_offered hops start old bucket rivals to place from label whole b rivalled within is new moves_on =
         let all_reached = growing_reached rules moves laws fitting hops old (old ++ bucket) whole (bucket_growing hops start old bucket to place b) in
         let reached : IsReached rules moves (hops + 1) label = record { front = new.new.front; few = omega (arith, new.new.hops_is) } in
@@ -177,11 +177,11 @@ module _ {R S : Type 0} (rules : Rules R S) where
         All-weaker (IsNewAt rules moves hops old to) (λ k. label_covers rules k label ≡ is_better rules k label) (λ k n. same_kind k label (n.at ∙ sym new.at) (n.new.hops_is ∙ sym new.new.hops_is)) bucket b.new in
         let under : All (λ k. label_covers rules label k ≡ is_better rules label k) bucket =
         All-weaker (IsNewAt rules moves hops old to) (λ k. label_covers rules label k ≡ is_better rules label k) (λ k n. same_kind label k (new.at ∙ sym n.at) (new.new.hops_is ∙ sym n.new.hops_is)) bucket b.new in
-        let made : old ++ taken rules old rivals bucket (Some label) ≡ offered (label_covers rules) (old ++ bucket) label =
+        let made : old ++ taken rules rivals bucket (Some label) ≡ offered (label_covers rules) (old ++ bucket) label =
         taken_behind old bucket rivals label (rivals_cover rules laws old to rivals label old_fit few rivalled new.at fits) spared over under in
-        let back : (t : State R) → Covered rules moves (offered (label_covers rules) (old ++ bucket) label) t → Covered rules moves (old ++ taken rules old rivals bucket (Some label)) t = λ t c. subst (λ l. Covered rules moves l t) (sym made) c in
+        let back : (t : State R) → Covered rules moves (offered (label_covers rules) (old ++ bucket) label) t → Covered rules moves (old ++ taken rules rivals bucket (Some label)) t = λ t c. subst (λ l. Covered rules moves l t) (sym made) c in
         record {
-          new = All-taken (IsNewAt rules moves hops old to) old bucket rivals label b.new new;
+          new = All-taken (IsNewAt rules moves hops old to) bucket rivals label b.new new;
           apart = subst (AllPairs (Apart (label_covers rules))) (sym made) (apart-offered (label_covers rules) (old ++ bucket) label b.apart);
           tried = λ i d low high. ⊎_elim
               (λ less. record { covered = λ t f e. back t (covered_kept (hops + 1) (old ++ bucket) label t all_reached reached f ((b.tried i d low less).covered t f e)) })
@@ -196,9 +196,9 @@ module _ {R S : Type 0} (rules : Rules R S) where
         }
 
     -- one label more was extended
-    pub bucket_step : (hops start : ℕ) (old bucket : List (Label R)) (rivals : List ℕ) (to place : ℕ) (from : Label R) → Whole rules moves hops old → IsLastLayer hops start old → Bucket rules moves Fits hops start old bucket to place → AreRivals rules old to rivals → start ≤ place → place < length old → from ≡ get_or old place from → IsCallOf moves to → Bucket rules moves Fits hops start old (taken rules old rivals bucket (stepped_label rules from place (moves.step from.call to) to)) to (place + 1)
+    pub bucket_step : (hops start : ℕ) (old bucket : List (Label R)) (rivals : List R) (to place : ℕ) (from : Label R) → Whole rules moves hops old → IsLastLayer hops start old → Bucket rules moves Fits hops start old bucket to place → AreRivals rules old to rivals → start ≤ place → place < length old → from ≡ get_or old place from → IsCallOf moves to → Bucket rules moves Fits hops start old (taken rules rivals bucket (stepped_label rules from place (moves.step from.call to) to)) to (place + 1)
     bucket_step hops start old bucket rivals to place from whole layer b rivalled low high is is_call =
-        let P : Option (Label R) → Type 0 = λ o. Bucket rules moves Fits hops start old (taken rules old rivals bucket o) to (place + 1) in
+        let P : Option (Label R) → Type 0 = λ o. Bucket rules moves Fits hops start old (taken rules rivals bucket o) to (place + 1) in
         let last : from.hops ≡ hops = ap (λ l. l.hops) is ∙ sym (last_hops hops start old place from layer low high) in
         ⊎_elim
         (λ none. subst P (sym none) (bucket_skipped hops start old bucket to place from b high is (option_map-none (labelled (Some place)) (moved rules moves (state_of from) to) none)))

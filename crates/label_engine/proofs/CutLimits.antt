@@ -1,24 +1,23 @@
 -- Within the limits of an instance and of a fit price no number of a cut goes past its type.
-use Rattle.std.proofs.Common.{◌≡◌, ℕ, ◌+◌, ◌*◌, ◌^◌, ◌<◌, ◌≤◌, Bool, true, false, cond, List, [], ◌∷◌, ℤ, pos, ◌-ℤ◌, None, Some, Option, refl, sym, ap, ◌∙◌, subst, arith, lit≤, to_z, of_z}
+use Rattle.std.proofs.Common.{◌≡◌, ℕ, ◌*◌, ◌^◌, ◌≤◌, Bool, List, [], ◌∷◌, ℤ, pos, ◌-ℤ◌, None, Some, sym, ap, ◌∙◌, subst, arith, lit≤, to_z, of_z}
 use Rattle.std.specs.Prelude.{unsigned_abs, FitsSigned}
 use Rattle.std.specs.Int.{w64, w128}
 use Rattle.std.specs.List.{AllByRecursion}
-use Rattle.std.specs.Option.{option_and_then}
 use Rattle.std.proofs.Math.Nat.{mul-le-mul_left, mul-le-mul_right}
-use Rattle.std.proofs.lemmas.Bool.{cond_both, cases_Bool, cond-true, cond-false}
+use Rattle.std.proofs.lemmas.Bool.{cond_both}
 use Rattle.std.proofs.lemmas.Int.{ints}
 use Rattle.std.proofs.lemmas.Option.{same_Some, none-some}
 use Rattle.label_core.specs.Resource.{Laws}
-use Rattle.label_core.specs.Clock.{IsClock, IsClockStep, latest}
+use Rattle.label_core.specs.Clock.{IsClock, IsClockStep}
 use Rattle.label_core.specs.ClockLaws.{clock_laws}
 use Rattle.label_core.specs.Critical.{IsCritical, IsMark}
 use Rattle.label_core.specs.CriticalLaws.{critical_laws}
-use Rattle.label_core.specs.Worth.{IsWorth, IsGain, most}
+use Rattle.label_core.specs.Worth.{IsWorth, IsGain}
 use Rattle.label_core.specs.WorthLaws.{worth_laws}
 use Rattle.label_core.specs.Pair.{FitsBoth, FitsBothSteps}
 use Rattle.label_core.specs.PairLaws.{pair_laws}
-use Rattle.label_engine.specs.Front.{IsCallOf, GivesFitting}
-use Rattle.label_engine.specs.Cut.{CutValue, CutStep, cut_rules, mark_of, cut_step, step_between, at_start, cut_moves, IsBounded, Cut, IsCut, IsVisit, relaxed as relaxed_cut}
+use Rattle.label_engine.specs.Front.{GivesFitting}
+use Rattle.label_engine.specs.Cut.{CutStep, cut_rules, mark_of, cut_step, step_between, at_start, cut_moves, IsBounded, Cut, IsCut, IsVisit, relaxed as relaxed_cut}
 use Rattle.label_engine.specs.declared.visit.Visit.{Visit}
 use Rattle.label_engine.proofs.Covering.{through}
 use Rattle.label_engine.proofs.CutSteps.{not_none}
@@ -109,11 +108,11 @@ module _ (p : Problem) (now : Region) (price : Price) (critical : List ℕ) (is 
     };
   }
 
-  between_fits : (i j : ℕ) (step : CutStep) → j ≤ calls p → step_between p relaxed i j ≡ Some step → FitsBothSteps IsClockStep (FitsBothSteps IsMark IsGain) step
+  pub between_fits : (i j : ℕ) (step : CutStep) → j ≤ calls p → step_between p relaxed i j ≡ Some step → FitsBothSteps IsClockStep (FitsBothSteps IsMark IsGain) step
   between_fits i j step within e =
       subst (FitsBothSteps IsClockStep (FitsBothSteps IsMark IsGain)) (not_none _ (cut_step p relaxed i j) step e).1 (step_fits i j within)
 
-  start_fits : FitsBoth IsClock (FitsBoth IsCritical IsWorth) (at_start p)
+  pub start_fits : FitsBoth IsClock (FitsBoth IsCritical IsWorth) (at_start p)
   start_fits = record {
     a = omega (arith, (site-within p 0 is).window, (site-within p 0 is).closing);
     b = record {

@@ -1,10 +1,10 @@
 -- The uncovered states of a cut's moves are the undominated states of its relaxation.
-use Rattle.std.proofs.Common.{◌≡◌, ◌≢◌, ℕ, zero, suc, ◌+◌, ◌≤◌, ◌<◌, Bool, true, false, cond, ◌&&◌, ◌||◌, eqb, nat_eq, List, [], ◌∷◌, length, map, filter, get_or, inl, inr, None, Some, refl, sym, ap, ◌∙◌, subst, arith, ℤ, pos, ◌+ℤ◌, unwrap_or, All, AllPairs}
+use Rattle.std.proofs.Common.{◌≡◌, ℕ, zero, suc, ◌+◌, ◌≤◌, ◌<◌, Bool, true, false, ◌&&◌, ◌||◌, nat_eq, List, [], ◌∷◌, length, map, filter, get_or, inl, inr, None, Some, refl, sym, ap, ◌∙◌, subst, arith, ℤ, pos, ◌+ℤ◌, unwrap_or, All}
 use Rattle.std.specs.List.{AllByRecursion, list_any, range_with_len}
-use Rattle.std.proofs.lemmas.Bool.{cases_Bool, cond-true, cond-false, eqb-true, and_parts, and_from, cond_both, or_cases}
+use Rattle.std.proofs.lemmas.Bool.{cases_Bool, cond-true, cond-false, eqb-true, and_parts, cond_both}
 use Rattle.std.proofs.lemmas.Option.{same_Some, none-some}
 use Rattle.std.proofs.lemmas.Int.{ints}
-use Rattle.bit_sets.specs.NumberSet.{RisesFrom, member, inserted, is_subset}
+use Rattle.bit_sets.specs.NumberSet.{RisesFrom, member}
 use Rattle.bit_sets.specs.NumberSetLaws.{member-inserted, rises-inserted, rises_lower, subset_from, subset_antisymmetric}
 use Rattle.label_core.specs.Critical.{critical_after}
 use Rattle.label_core.specs.CriticalLaws.{marks}

@@ -1,8 +1,8 @@
 -- Lists that one more element is offered to: it is left out where one in the list covers it, and drops those that it covers.
-use Rattle.std.proofs.Common.{◌≡◌, ℕ, zero, suc, ◌+◌, Bool, true, false, not, ◌||◌, cond, List, [], ◌∷◌, ◌++◌, Some, refl, sym, ap, ◌∙◌, subst, arith, append_assoc}
+use Rattle.std.proofs.Common.{◌≡◌, ℕ, zero, suc, ◌+◌, ◌<◌, Bool, true, false, not, ◌||◌, cond, List, [], ◌∷◌, ◌++◌, length, map, Some, refl, sym, ap, ◌∙◌, subst, arith, append_assoc}
 use Rattle.std.specs.List.{All, AllPairs, Contains, filter, list_any, range_with_len, slice_get}
 use Rattle.std.proofs.lemmas.Bool.{or_parts, not-true, not_from_false, cond-true, cond_both}
-use Rattle.std.proofs.lemmas.List.{map-id}
+use Rattle.std.proofs.lemmas.List.{get_or-map, length-map, map-id}
 use Rattle.std.proofs.lemmas.List.FromFn.{map-range_with_len_more}
 use Rattle.std.proofs.lemmas.List.Elements.{All-nil, All-cons, All-head, All-tail, All-filter, All-push, All-weaker, filter_passes, filter-append}
 use Rattle.std.proofs.lemmas.List.Folds.{list_any-append}
@@ -50,6 +50,9 @@ Contains-filter p (y ∷ ys) x h (zero, within, is) =
 Contains-filter p (y ∷ ys) x h (suc k, within, is) =
     let rest = Contains-filter p ys x h (k, omega arith, is) in
     cond_both (p y) (y ∷ filter p ys) (filter p ys) (λ zs. Contains zs x) (λ _. Contains-cons y (filter p ys) x rest) (λ _. rest)
+
+pub Contains-map : {X Y : Type 0} (f : X → Y) (xs : List X) (x : X) → Contains xs x → Contains (map f xs) (f x)
+Contains-map f xs x c = (c.0, (let e = length-map xs f in let below : c.0 < length xs = c.1 in omega arith), get_or-map f xs c.0 x (f x) c.1 ∙ ap f c.2)
 
 pub slice_get-append_left : {X : Type 0} (xs ys : List X) (i : ℕ) (x : X) → slice_get xs i ≡ Some x → slice_get (xs ++ ys) i ≡ Some x
 slice_get-append_left [] ys i x e = cc

@@ -7,12 +7,12 @@ use Rattle.std.proofs.lemmas.List.Elements.{All-nil, All-append, All-contains, A
 use Rattle.std.proofs.lemmas.List.{get_or-append_right, get_or-map, get_or_default, get_or_append_left, length-map}
 use Rattle.std.proofs.lemmas.Option.{none-some}
 use Rattle.label_core.specs.Resource.{Rules, Laws}
-use Rattle.label_engine.specs.Front.{MoveRules, State, IsCallOf, GivesFitting, begun, moved, covers, IsFrontState, IsUncovered}
+use Rattle.label_engine.specs.Front.{MoveRules, State, IsCallOf, GivesFitting, begun, covers, IsFrontState, IsUncovered}
 use Rattle.label_engine.specs.Settled.{Covered, state_of, IsExtended, HasParent, IsSettled, HasMoreThan}
 use Rattle.label_engine.specs.Offer.{label_covers}
 use Rattle.label_engine.specs.Layer.{Apart, InOrder, IsReached, Whole, IsNew, Growing, Tried}
 use Rattle.label_engine.specs.declared.label.Label.{Label}
-use Rattle.label_engine.proofs.Covering.{cover_parts, covers_reflexive, covers_transitive, covers_antisymmetric, move_parts, moves_too, fits_moved}
+use Rattle.label_engine.proofs.Covering.{cover_parts, covers_reflexive, covers_transitive, covers_antisymmetric, moves_too, fits_moved}
 use Rattle.label_engine.proofs.Fronts.{Begins, Extends, front_longer, front_begun, front_within, front_end, bounded}
 use Rattle.label_engine.proofs.Kept.{slice_get-append_left}
 

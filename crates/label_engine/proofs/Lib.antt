@@ -14,3 +14,6 @@ pub mod Sigma
 pub mod CutLimits
 pub mod Best
 pub mod WalkLimits
+pub mod Renaming
+pub mod Names
+pub mod Flagged

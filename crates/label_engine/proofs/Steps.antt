@@ -11,13 +11,13 @@ use Rattle.label_core.specs.Resource.{Rules, Laws}
 use Rattle.label_engine.specs.Front.{MoveRules, State, IsCallOf, GivesFitting, begun, covers, IsFrontState, IsUncovered}
 use Rattle.label_engine.specs.Settled.{Covered, state_of, IsExtended, HasMoreThan}
 use Rattle.label_engine.specs.Offer.{labelled, begun_label, label_covers}
-use Rattle.label_engine.specs.Layer.{Apart, IsLastLayer, IsReached, Whole, IsNew, IsNewAt, Growing, TriedBeginning, Tried, Bucket, NextLayer, FirstLayer}
-use Rattle.label_engine.specs.Rivals.{StandsAt, AreRivals}
+use Rattle.label_engine.specs.Layer.{Apart, IsLastLayer, IsReached, Whole, IsNew, IsNewAt, Growing, Tried, Bucket, NextLayer, FirstLayer}
+use Rattle.label_engine.specs.Rivals.{StandsFor, AreRivals}
 use Rattle.label_engine.specs.declared.label.Label.{Label}
 use Rattle.label_engine.proofs.Covering.{mapped, move_parts, cover_parts, covers_reflexive}
-use Rattle.label_engine.proofs.Fronts.{Begins, Extends, front_begun, front_end, front_within, bounded}
+use Rattle.label_engine.proofs.Fronts.{front_begun, front_end, front_within, bounded}
 use Rattle.label_engine.proofs.Layers.{growing_none, growing_reached, reached_fits, covered_old, BeginningsCovered, longer_covered, uncovered_at, more_uncovered, whole_none, whole_next}
-use Rattle.label_engine.proofs.Buckets.{found_cases, option_map-none, bucket_growing}
+use Rattle.label_engine.proofs.Buckets.{found_cases, option_map-none}
 
 -- pairs of a list with a layer and with a bucket, and of the layer with the bucket
 pairs_joined : {X : Type 0} (P : X → X → Type 0) (old layer bucket : List X) → AllPairs P (old ++ layer) → AllPairs P (old ++ bucket) → ((a b : X) → Contains layer a → Contains bucket b → P a b) → AllPairs P ((old ++ layer) ++ bucket)
@@ -162,7 +162,7 @@ module _ {R S : Type 0} (rules : Rules R S) (moves : MoveRules R S) where
     -- no label stands at the next call
     pub first_rivals : (labels : List (Label R)) (call : ℕ) → FirstLayer rules moves Fits labels call → AreRivals rules labels call []
     first_rivals labels call first = record {
-      stand = All-nil (StandsAt labels call);
+      stand = All-nil (StandsFor labels call);
       beat = λ k d within at. absurd (omega (arith, first.below k d within, at));
     }
 

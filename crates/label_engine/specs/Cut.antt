@@ -1,5 +1,6 @@
 -- The moves of a cut: what a walk carries from call to call is a clock, the critical calls that it visited, and its worth.
 use Rattle.std.specs.Prelude.{◌≡◌, ◌≤ℤ◌, All, Any, MatchOption, true, ℕ, ◌+◌, ◌*◌, ◌<◌, ◌≤◌, ◌||◌, nat_eq, if◌then◌else◌, ℤ, pos, ◌-ℤ◌, unsigned_abs, List, [], Option, None, Some}
+use Rattle.std.specs.List.{position}
 use Rattle.std.specs.Option.{option_and_then, option_map}
 use Rattle.label_core.specs.Resource.{Rules}
 use Rattle.label_core.specs.Clock.{clock_rules, latest}
@@ -101,8 +102,28 @@ pub record IsCut (c : Cut) : Type 0 where
   pub fit : IsFit (calls c.problem) (is_forced c.region) c.price
   pub critical : is_critical_set (calls c.problem) c.critical ≡ true
 
--- whether a call is critical, and what a visit is worth without the travel
+-- the place of a call in the critical set, where it is critical
+abbrev pub flag_of : List ℕ → ℕ → Option ℕ
+flag_of critical call = position (λ place. nat_eq place call) critical
+
+-- the call's place in the critical set, and what a visit is worth without the travel
 abbrev pub IsVisit : Cut → ℕ → Visit → Type 0
 IsVisit c call visit =
-    (visit.is_critical ≡ (relaxed c).critical call)
+    (visit.place ≡ flag_of c.critical call)
     × (visit.worth ≡ pos (c.price.alpha * (site c.problem call).score) -ℤ price_of c.price.pi call)
+
+-- ---- moves whose walks hold the places of critical calls in the critical set
+
+-- the step with another mark
+abbrev pub marked : Option ℕ → CutStep → CutStep
+marked mark step = record { a = step.a; b = record { a = mark; b = step.b.b } }
+
+abbrev pub flagged_between : Cut → ℕ → ℕ → Option CutStep
+flagged_between c i j = option_map (marked (flag_of c.critical j)) (step_between c.problem (relaxed c) i j)
+
+abbrev pub flagged_moves : Cut → MoveRules CutValue CutStep
+flagged_moves c = record {
+  calls = calls c.problem;
+  begin = λ j. option_and_then (cut_rules.extended (at_start c.problem)) (flagged_between c 0 j);
+  step = flagged_between c;
+}

@@ -2,7 +2,7 @@
 -- after another.
 use Rattle.std.specs.Prelude.{◌≡◌, ℕ, ◌+◌, ◌<◌, ◌≤◌, Bool, false, List, [], ◌++◌, length, slice_index_or, take, drop, Some, All, AllPairs}
 use Rattle.label_core.specs.Resource.{Rules}
-use Rattle.label_engine.specs.Front.{MoveRules, State, begun, moved, IsCallOf, IsFrontState}
+use Rattle.label_engine.specs.Front.{MoveRules, State, begun, moved, IsFrontState}
 use Rattle.label_engine.specs.Settled.{state_of, HasParent, Covered}
 use Rattle.label_engine.specs.Offer.{label_covers}
 use Rattle.label_engine.specs.declared.label.Label.{Label}

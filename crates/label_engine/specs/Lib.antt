@@ -7,3 +7,4 @@ pub mod Layer
 pub mod Cut
 pub mod Example
 pub mod Greatest
+pub mod Renaming

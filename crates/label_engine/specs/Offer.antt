@@ -1,6 +1,6 @@
 -- One label more: what a step gives, and how the bucket of a call takes it.
-use Rattle.std.specs.Prelude.{ℕ, ◌+◌, Bool, false, not, if◌then◌else◌, List, [], ◌∷◌, ◌++◌, filter, Option, None, Some}
-use Rattle.std.specs.List.{list_any, slice_get}
+use Rattle.std.specs.Prelude.{ℕ, ◌+◌, Bool, not, if◌then◌else◌, List, [], ◌∷◌, ◌++◌, filter, Option, None, Some}
+use Rattle.std.specs.List.{list_any}
 use Rattle.std.specs.Option.{option_and_then, option_map}
 use Rattle.label_core.specs.Resource.{Rules}
 use Rattle.label_engine.specs.Front.{MoveRules, State, covers, begun}
@@ -35,24 +35,16 @@ offered better kept candidate =
 abbrev pub is_better : {R S : Type 0} → Rules R S → Label R → Label R → Bool
 is_better rules a b = rules.leq a.state b.state
 
-abbrev pub is_better_at : {R S : Type 0} → Rules R S → Option (Label R) → R → Bool
-is_better_at rules None value = false
-is_better_at rules (Some label) value = rules.leq label.state value
-
--- the label at the place is at least as good as the value
-abbrev pub beats : {R S : Type 0} → Rules R S → List (Label R) → R → ℕ → Bool
-beats rules labels value place = is_better_at rules (slice_get labels place) value
+-- the rival is at least as good as the value
+abbrev pub beats : {R S : Type 0} → Rules R S → R → R → Bool
+beats rules value rival = rules.leq rival value
 
 -- the bucket after a label was found, where one was: it is left out where a rival is at least as good
-abbrev pub taken : {R S : Type 0} → Rules R S → List (Label R) → List ℕ → List (Label R) → Option (Label R) → List (Label R)
-taken rules labels rivals bucket None = bucket
-taken rules labels rivals bucket (Some label) =
-    if list_any (beats rules labels label.state) rivals then bucket else offered (is_better rules) bucket label
+abbrev pub taken : {R S : Type 0} → Rules R S → List R → List (Label R) → Option (Label R) → List (Label R)
+taken rules rivals bucket None = bucket
+taken rules rivals bucket (Some label) =
+    if list_any (beats rules label.state) rivals then bucket else offered (is_better rules) bucket label
 
-abbrev pub is_outdone_at : {R S : Type 0} → Rules R S → List (Label R) → Option (Label R) → Bool
-is_outdone_at rules bucket None = false
-is_outdone_at rules bucket (Some label) = list_any (λ better. is_better rules better label) bucket
-
--- a label of the bucket is at least as good as the label at the place
-abbrev pub is_outdone : {R S : Type 0} → Rules R S → List (Label R) → List (Label R) → ℕ → Bool
-is_outdone rules labels bucket place = is_outdone_at rules bucket (slice_get labels place)
+-- a label of the bucket is at least as good as the rival
+abbrev pub is_outdone : {R S : Type 0} → Rules R S → List (Label R) → R → Bool
+is_outdone rules bucket rival = list_any (λ label. rules.leq label.state rival) bucket

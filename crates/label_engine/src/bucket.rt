@@ -1,5 +1,5 @@
-ghost use Rattle.std.specs.Prelude.{◌≡◌, ℕ, ◌+◌, ◌-◌, ◌<◌, ◌≤◌, ◌^◌, ◌++◌, [], All, not, filter, length, vec_len, OnOk, IfSome, true, false, slice_index, if◌then◌else◌};
-ghost use Rattle.std.specs.List.{list_any, range_with_len};
+ghost use Rattle.std.specs.Prelude.{◌≡◌, ◌+◌, ◌<◌, ◌≤◌, ◌^◌, ◌++◌, [], not, filter, map, length, OnOk, IfSome, IsSome, IsNone, true, false};
+ghost use Rattle.std.specs.List.{list_any};
 ghost use Rattle.std.specs.List.Sorted.{IsPermutation};
 ghost use Rattle.label_engine.specs.Front.{IsCallOf, GivesFitting};
 ghost use Rattle.label_engine.specs.Known.{Knows};
@@ -62,13 +62,13 @@ fn extension<R: Resource>(
 }
 
 /// The place of a rival that is at least as good as a state, None where there is none.
-fn first_better<R: Resource>(labels: &[Label<R>], rivals: &[usize], state: &R) -> Option<usize>
-    requires { All (λ place. place < length labels.now) rivals.now }
-    ensures found { IfSome result (λ index. (index < length rivals.now) × (beats R.rules labels.now state.now (slice_index rivals.now index) ≡ true)) }
-    ensures none { result ≡ None → list_any (beats R.rules labels.now state.now) rivals.now ≡ false }
+fn first_better<R: Resource>(rivals: &[R], state: &R) -> Option<usize>
+    ensures within { IfSome result (λ index. index < length rivals.now) }
+    ensures found { IsSome result → list_any (beats R.rules state.now) rivals.now ≡ true }
+    ensures none { IsNone result → list_any (beats R.rules state.now) rivals.now ≡ false }
 {
     for index in 0..rivals.len() {
-        if labels[rivals[index]].state.leq(state) {
+        if rivals[index].leq(state) {
             return Some(index);
         }
     }
@@ -76,12 +76,11 @@ fn first_better<R: Resource>(labels: &[Label<R>], rivals: &[usize], state: &R) -
 }
 
 /// Whether a rival is at least as good as a state. One that is moves halfway to the front, so that it is met sooner.
-fn is_beaten<R: Resource>(labels: &[Label<R>], rivals: &mut [usize], state: &R) -> bool
-    requires { All (λ place. place < length labels.now) rivals.old }
-    ensures value { result ≡ list_any (beats R.rules labels.now state.now) rivals.old }
+fn is_beaten<R: Resource>(rivals: &mut [R], state: &R) -> bool
+    ensures value { result ≡ list_any (beats R.rules state.now) rivals.old }
     ensures rivals { IsPermutation rivals.old rivals.new }
 {
-    match first_better(labels, rivals, state) {
+    match first_better(rivals, state) {
         None => false,
         Some(index) => {
             rivals.swap(index / 2, index);
@@ -116,19 +115,17 @@ fn offer<R: Resource>(bucket: &mut Vec<Label<R>>, candidate: Label<R>) -> Result
 
 /// Takes a label into the bucket, where there is one, unless a rival is at least as good.
 fn take<R: Resource>(
-    labels: &[Label<R>],
-    rivals: &mut [usize],
+    rivals: &mut [R],
     bucket: &mut Vec<Label<R>>,
     found: Option<Label<R>>,
 ) -> Result<(), AllocError>
-    requires { All (λ place. place < length labels.now) rivals.old }
-    ensures bucket { OnOk result (bucket.new.items ≡ taken R.rules labels.now rivals.old bucket.old.items found) }
+    ensures bucket { OnOk result (bucket.new.items ≡ taken R.rules rivals.old bucket.old.items found) }
     ensures rivals { IsPermutation rivals.old rivals.new }
 {
     match found {
         None => Ok(()),
         Some(label) => {
-            if is_beaten(labels, rivals, &label.state) {
+            if is_beaten(rivals, &label.state) {
                 return Ok(());
             }
             offer(bucket, label)
@@ -143,7 +140,7 @@ pub(crate) fn fill_bucket<R: Resource, M: Moves<R>>(
     start: usize,
     hops: u32,
     to: u32,
-    rivals: &mut [usize],
+    rivals: &mut [R],
     bucket: &mut Vec<Label<R>>,
 ) -> Result<(), AllocError>
     requires fitting { GivesFitting R.fits R.fits_step (M.moves moves.now) }
@@ -165,35 +162,31 @@ pub(crate) fn fill_bucket<R: Resource, M: Moves<R>>(
         let label = &labels[place];
         know_step(moves, &mut known, label.call, to);
         let found = extension(label, place, &known.step, to);
-        take(labels, rivals, bucket, found)?;
+        take(rivals, bucket, found)?;
     }
     Ok(())
 }
 
-/// Whether a label of the bucket is at least as good as the label at a place.
-fn is_outdone<R: Resource>(labels: &[Label<R>], bucket: &[Label<R>], place: usize) -> bool
-    ensures { result ≡ is_outdone R.rules labels.now bucket.now place }
+/// Whether a label of the bucket is at least as good as a rival.
+fn is_outdone<R: Resource>(bucket: &[Label<R>], rival: &R) -> bool
+    ensures { result ≡ is_outdone R.rules bucket.now rival.now }
 {
-    match labels.get(place) {
-        Some(label) => is_covered(bucket, label),
-        None => false,
-    }
+    bucket.iter().any(|label| label.state.leq(rival))
 }
 
 /// Drops the rivals that a label of the bucket outdoes.
-fn drop_outdone<R: Resource>(labels: &[Label<R>], bucket: &[Label<R>], rivals: &mut Vec<usize>)
-    ensures { rivals.new.items ≡ filter (λ place. not (is_outdone R.rules labels.now bucket.now place)) rivals.old.items }
+fn drop_outdone<R: Resource>(bucket: &[Label<R>], rivals: &mut Vec<R>)
+    ensures { rivals.new.items ≡ filter (λ rival. not (is_outdone R.rules bucket.now rival)) rivals.old.items }
 {
-    rivals.retain(|place| !is_outdone(labels, bucket, *place));
+    rivals.retain(|rival| !is_outdone(bucket, rival));
 }
 
-/// Adds the places from one on, before another.
-fn add_places(places: &mut Vec<usize>, from: usize, until: usize) -> Result<(), AllocError>
-    requires { from ≤ until }
-    ensures { OnOk result (places.new.items ≡ places.old.items ++ range_with_len from (until - from)) }
+/// Makes the labels of the bucket rivals.
+fn add_rivals<R: Resource>(bucket: &[Label<R>], rivals: &mut Vec<R>) -> Result<(), AllocError>
+    ensures { OnOk result (rivals.new.items ≡ rivals.old.items ++ map (λ label. label.state) bucket.now) }
 {
-    for place in from..until {
-        places.push(place)?;
+    for label in bucket {
+        rivals.push(label.state.copy())?;
     }
     Ok(())
 }
@@ -201,15 +194,14 @@ fn add_places(places: &mut Vec<usize>, from: usize, until: usize) -> Result<(), 
 /// Puts the bucket of a call behind the labels, and makes its labels rivals in place of those that they outdo.
 pub(crate) fn close_bucket<R: Resource>(
     labels: &mut Vec<Label<R>>,
-    rivals: &mut Vec<usize>,
+    rivals: &mut Vec<R>,
     bucket: &mut Vec<Label<R>>,
 ) -> Result<(), AllocError>
     ensures labels { OnOk result (labels.new.items ≡ labels.old.items ++ bucket.old.items) }
-    ensures rivals { OnOk result (rivals.new.items ≡ closed_rivals R.rules labels.old.items bucket.old.items rivals.old.items) }
+    ensures rivals { OnOk result (rivals.new.items ≡ closed_rivals R.rules bucket.old.items rivals.old.items) }
     ensures bucket { OnOk result (bucket.new.items ≡ []) }
 {
-    drop_outdone(labels, bucket, rivals);
-    let start = labels.len();
-    labels.append(bucket)?;
-    add_places(rivals, start, labels.len())
+    drop_outdone(bucket, rivals);
+    add_rivals(bucket, rivals)?;
+    labels.append(bucket)
 }

@@ -1,6 +1,6 @@
-ghost use Rattle.std.specs.Prelude.{◌≡◌, ◌*◌, ◌<◌, ◌≤◌, ℕ, pos, ◌-ℤ◌, FitsSigned, is_some, true, if◌then◌else◌};
+ghost use Rattle.std.specs.Prelude.{◌≡◌, ◌*◌, ◌<◌, ◌≤◌, ℕ, pos, ◌-ℤ◌, FitsSigned, IfSome, is_some, length, true, if◌then◌else◌};
 ghost use Rattle.std.specs.Int.{w64};
-ghost use Rattle.label_engine.specs.Cut.{cut, IsCut, IsVisit, relaxed, cut_moves, step_between};
+ghost use Rattle.label_engine.specs.Cut.{cut, at_start, flag_of, IsCut, IsVisit, relaxed, cut_moves, step_between};
 ghost use Rattle.label_engine.specs.Greatest.{IsAtCall, value_of};
 ghost use Rattle.orienteering.specs.Instance.{calls, end_place, next_clock, IsCall};
 ghost use Rattle.orienteering.specs.Limits.{longest_arc};
@@ -9,6 +9,7 @@ ghost use Rattle.orienteering.specs.Region.{IsProper, is_forced};
 ghost use Rattle.orienteering.specs.Replay.{is_critical_set};
 ghost use Rattle.orienteering.specs.Walk.{step_value};
 
+use crate::flagged_moves::FlaggedState;
 use crate::label::Label;
 use crate::moves::Moves;
 use crate::visit::Visit;
@@ -78,6 +79,25 @@ fn mark(call: u32, is_critical: bool) -> Mark
     }
 }
 
+/// Where a call stands in the critical set.
+fn position_of(critical: &[u32], call: u32) -> Option<usize>
+    ensures place { result ≡ flag_of critical.now call }
+    ensures within { IfSome result (λ place. place < length critical.now) }
+{
+    critical.iter().position(|known| *known == call)
+}
+
+/// The place of a call in the critical set, None where it isn't critical.
+fn place_of(critical: &[u32], call: u32) -> Option<u32>
+    requires { length critical.now ≤ 64 }
+    ensures { result ≡ flag_of critical.now call }
+{
+    match position_of(critical, call) {
+        None => None,
+        Some(place) => Some(place as u32),
+    }
+}
+
 /// The price of a call, 0 without an entry.
 fn price_of(entries: &[(u32, i64)], call: u32) -> i64
     ensures { result ≡ price_of entries.now call }
@@ -121,7 +141,7 @@ impl<'a> CutMoves<'a> {
     {
         let earned = weighted(self.price.alpha, u64::from(self.inst.score(call)));
         Visit {
-            is_critical: self.critical.contains(&call),
+            place: place_of(self.critical, call),
             worth: difference(earned, price_of(self.price.pi.list(), call)),
         }
     }
@@ -158,14 +178,14 @@ impl<'a> CutMoves<'a> {
         Some(PairStep {
             a: time,
             b: PairStep {
-                a: mark(to, visit.is_critical),
+                a: mark(to, visit.place.is_some()),
                 b: gain,
             },
         })
     }
 
     /// Whether the walk of a label can go to the end in time.
-    fn is_in_time(&self, label: &Label<CutState>) -> bool
+    fn is_in_time(&self, label: &Label<FlaggedState>) -> bool
         requires { IsCall self.now.problem label.now.call }
         ensures { result ≡ is_some (next_clock self.now.problem label.now.state.a.at label.now.call (end_place self.now.problem)) }
     {
@@ -179,7 +199,7 @@ impl<'a> CutMoves<'a> {
     }
 
     /// The value of the walk of a label, None where it can't go to the end.
-    pub(crate) fn closed_value(&self, label: &Label<CutState>) -> Option<i128>
+    pub(crate) fn closed_value(&self, label: &Label<FlaggedState>) -> Option<i128>
         requires { IsAtCall self.now label.now }
         ensures { result ≡ value_of self.now label.now }
     {
@@ -191,25 +211,13 @@ impl<'a> CutMoves<'a> {
         Some(label.state.b.b.sum - i128::from(paid))
     }
 
-    /// What a walk carries at a call that it visits first.
-    pub(crate) fn begin_at(&self, call: u32, visit: Visit) -> Option<CutState>
-        requires call { IsCall self.now.problem call }
-        requires visit { IsVisit self.now call visit }
-        ensures { result ≡ (cut_moves self.now.problem (relaxed self.now)).begin call }
+    /// When a walk leaves the start.
+    pub(crate) fn start(&self) -> Clock
+        ensures { result ≡ (at_start self.now.problem).a }
     {
-        let start = Pair {
-            a: Clock {
-                at: self.inst.opening(0),
-            },
-            b: Pair {
-                a: Critical {
-                    held: Bits::empty(self.alloc),
-                },
-                b: Worth { sum: 0 },
-            },
-        };
-        let step = self.step_to(0, call, visit)?;
-        start.extend(&step)
+        Clock {
+            at: self.inst.opening(0),
+        }
     }
 }
 
@@ -221,7 +229,17 @@ impl Moves<CutState> for CutMoves<'_> {
     }
 
     fn begin(&self, call: u32) -> Option<CutState> {
-        self.begin_at(call, self.visit(call))
+        let start = Pair {
+            a: self.start(),
+            b: Pair {
+                a: Critical {
+                    held: Bits::empty(self.alloc),
+                },
+                b: Worth { sum: 0 },
+            },
+        };
+        let step = self.step_to(0, call, self.visit(call))?;
+        start.extend(&step)
     }
 
     fn step(&self, from: u32, to: u32) -> Option<CutStep> {

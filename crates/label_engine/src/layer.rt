@@ -1,5 +1,4 @@
-ghost use Rattle.std.specs.Prelude.{◌≡◌, ℕ, ◌+◌, ◌<◌, ◌≤◌, ◌^◌, ◌++◌, [], length, vec_len, OnOk, IfOk};
-ghost use Rattle.std.specs.List.{range_with_len};
+ghost use Rattle.std.specs.Prelude.{◌≡◌, ℕ, ◌+◌, ◌<◌, ◌≤◌, ◌^◌, ◌++◌, [], map, vec_len, OnOk, IfOk};
 ghost use Rattle.std.specs.Option.{option_to_list};
 ghost use Rattle.label_engine.specs.Front.{IsCallOf, GivesFitting};
 ghost use Rattle.label_engine.specs.Layer.{Whole, IsLastLayer};
@@ -33,14 +32,14 @@ fn begin_call<R: Resource, M: Moves<R>>(
     moves: &M,
     labels: &mut Vec<Label<R>>,
     call: u32,
-) -> Result<Vec<usize>, AllocError>
+) -> Result<Vec<R>, AllocError>
     requires { IsCallOf (M.moves moves.now) call }
     ensures labels { OnOk result (labels.new.items ≡ labels.old.items ++ option_to_list (begun_label R.rules (M.moves moves.now) call)) }
-    ensures rivals { IfOk result (λ rivals. rivals.items ≡ range_with_len (length labels.old.items) (length (option_to_list (begun_label R.rules (M.moves moves.now) call)))) }
+    ensures rivals { IfOk result (λ rivals. rivals.items ≡ map (λ label. label.state) (option_to_list (begun_label R.rules (M.moves moves.now) call))) }
 {
     let mut rivals = Vec::new(alloc);
     if let Some(label) = beginning(moves, call) {
-        rivals.push(labels.len())?;
+        rivals.push(label.state.copy())?;
         labels.push(label)?;
     }
     Ok(rivals)
@@ -52,7 +51,7 @@ pub(crate) fn first_layer<R: Resource, M: Moves<R>>(
     moves: &M,
     calls: u32,
     labels: &mut Vec<Label<R>>,
-    rivals: &mut Vec<Vec<usize>>,
+    rivals: &mut Vec<Vec<R>>,
 ) -> Result<(), AllocError>
     requires count { calls ≡ (M.moves moves.now).calls }
     requires fitting { GivesFitting R.fits R.fits_step (M.moves moves.now) }
@@ -78,7 +77,7 @@ pub(crate) fn next_layer<R: Resource, M: Moves<R>>(
     hops: u32,
     limit: u64,
     labels: &mut Vec<Label<R>>,
-    rivals: &mut Vec<Vec<usize>>,
+    rivals: &mut Vec<Vec<R>>,
     bucket: &mut Vec<Label<R>>,
 ) -> Result<(), ReplayFail>
     requires count { calls ≡ (M.moves moves.now).calls }

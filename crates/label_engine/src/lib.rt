@@ -10,10 +10,10 @@
 mod bucket;
 mod cut;
 mod cut_moves;
+mod flagged_moves;
 mod label;
 mod layer;
 mod moves;
-mod priced_moves;
 mod replay;
 mod search;
 #[cfg(test)]

@@ -1,7 +1,7 @@
 ghost use Rattle.std.specs.Prelude.{◌≡◌, ◌<◌, ◌≤◌, ◌^◌, All, ℤ, ◌-ℤ◌, FitsSigned, unsigned_abs, is_some, true, length, IfOk, MatchOption, OnOk};
 ghost use Rattle.std.specs.Int.{w128};
 ghost use Rattle.label_core.specs.Clock.{clock_after};
-ghost use Rattle.label_engine.specs.Cut.{IsCut, cut_rules, cut_moves, relaxed};
+ghost use Rattle.label_engine.specs.Cut.{IsCut, cut_rules, flagged_moves, relaxed};
 ghost use Rattle.label_engine.specs.Greatest.{sigma_of, HasWalk, is_open_tour, IsAtCall, value_of, IsBest, better};
 ghost use Rattle.label_engine.specs.Settled.{IsSettled};
 ghost use Rattle.orienteering.specs.Duality.{BoundsTours};
@@ -11,9 +11,9 @@ ghost use Rattle.orienteering.specs.Region.{IsProper, is_forced};
 ghost use Rattle.orienteering.specs.Replay.{is_critical_set, relaxation};
 ghost use Rattle.orienteering.specs.Sigma.{sigma, undominated};
 
-use crate::cut_moves::{CutMoves, CutState};
+use crate::cut_moves::CutMoves;
+use crate::flagged_moves::{FlaggedMoves, FlaggedState};
 use crate::label::{Label, ReplayFail};
-use crate::priced_moves::PricedMoves;
 use crate::search::settle;
 use crate::walk::front_of;
 use orienteering::{Price, Tour};
@@ -57,7 +57,7 @@ fn better(best: Option<Closed>, place: usize, value: Option<i128>) -> Option<Clo
 }
 
 /// The best of the labels that can go to the end.
-fn best_closed(cut: &CutMoves, labels: &[Label<CutState>]) -> Option<Closed>
+fn best_closed(cut: &CutMoves, labels: &[Label<FlaggedState>]) -> Option<Closed>
     requires { All (IsAtCall cut.now) labels.now }
     ensures { IsBest cut.now labels.now result }
 {
@@ -71,11 +71,11 @@ fn best_closed(cut: &CutMoves, labels: &[Label<CutState>]) -> Option<Closed>
 /// The outcome that the settled labels give.
 fn answer(
     alloc: Global,
-    moves: &PricedMoves,
-    labels: &[Label<CutState>],
+    moves: &FlaggedMoves,
+    labels: &[Label<FlaggedState>],
 ) -> Result<Outcome, AllocError>
     requires cut { IsCut moves.now }
-    requires settled { IsSettled cut_rules (cut_moves moves.now.problem (relaxed moves.now)) (calls moves.now.problem) labels.now }
+    requires settled { IsSettled cut_rules (flagged_moves moves.now) (calls moves.now.problem) labels.now }
     ensures sigma { IfOk result (λ outcome. sigma_of outcome ≡ sigma moves.now.problem (relaxed moves.now)) }
     ensures walk { IfOk result (HasWalk moves.now.problem (relaxed moves.now)) }
 {
@@ -117,7 +117,7 @@ pub fn greatest(
     ensures many { result ≡ Err ReplayFail.TooManyLabels → limit < length (undominated inst.now (relaxation ctx.now price.now critical.now)) }
 {
     let cut = CutMoves::new(alloc, inst, ctx, price, critical);
-    let moves = PricedMoves::of(alloc, cut)?;
+    let moves = FlaggedMoves::of(alloc, cut)?;
     let settled = settle(alloc, &moves, inst.calls(), limit)?;
     Ok(answer(alloc, &moves, settled.labels())?)
 }

@@ -2,7 +2,7 @@ use Rattle.std.proofs.Common.{◌≡◌, ◌+◌, length, sym, ap, ◌∙◌, su
 use Rattle.label_engine.specs.Layer.{Bucket}
 use Rattle.label_engine.specs.Offer.{stepped_label, taken}
 use Rattle.label_engine.proofs.Rivals.{rivals_moved}
-use Rattle.label_engine.proofs.Buckets.{bucket_none, bucket_step, from_known}
+use Rattle.label_engine.proofs.Buckets.{bucket_step, from_known}
 use Rattle.label_engine.proofs.bucket.fill_bucket.Goals as goal
 
 pub know_step-requires-clause-from : goal.know_step-requires-clause-from
@@ -20,7 +20,7 @@ loop-place-preserved g c =
     let step : known.step ≡ moves.step label.call c.args.to =
     c.know_step.ensures.known.step (omega (arith, is_call.low, c.know_step.ensures.from)) ∙ ap (λ from. moves.step from c.args.to) c.know_step.ensures.from in
     let found = c.extension-found.ensures ∙ ap (λ s. stepped_label rules label c.loop-place.place s c.args.to) step in
-    let made = c.in_ok-take.ensures.bucket ∙ ap (taken rules labels c.loop-place.rivals c.loop-place.bucket.items) found in
+    let made = c.in_ok-take.ensures.bucket ∙ ap (taken rules c.loop-place.rivals c.loop-place.bucket.items) found in
     record {
       filled = subst (λ bucket. Bucket rules moves g.R.Resource.fits c.args.hops c.args.start labels bucket c.args.to (c.loop-place.place + 1)) (sym made)
           (bucket_step rules moves g.met.R.Resource.laws c.requires.fitting c.args.hops c.args.start labels c.loop-place.bucket.items c.loop-place.rivals c.args.to c.loop-place.place label c.requires.whole c.requires.layer c.loop-place.invariant.filled c.loop-place.invariant.rivals (omega arith) (omega arith) c.index-labels-place.is c.requires.call);

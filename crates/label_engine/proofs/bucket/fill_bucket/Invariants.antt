@@ -1,4 +1,3 @@
-use Rattle.std.proofs.Common.{◌≤◌, length}
 use Rattle.label_engine.specs.Known.{Knows}
 use Rattle.label_engine.specs.Layer.{Bucket}
 use Rattle.label_engine.specs.Rivals.{AreRivals}

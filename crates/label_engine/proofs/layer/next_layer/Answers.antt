@@ -1,5 +1,4 @@
-use Rattle.std.proofs.Common.{◌≡◌, ℕ, ◌+◌, ◌<◌, ◌++◌, length, take, drop, sym, ap, ◌∙◌, subst, arith, length-append}
-use Rattle.std.specs.List.{All}
+use Rattle.std.proofs.Common.{◌≡◌, ◌+◌, ◌<◌, ◌++◌, length, take, drop, sym, ap, ◌∙◌, subst, arith, length-append}
 use Rattle.std.proofs.lemmas.List.{take_at}
 use Rattle.std.proofs.lemmas.List.Elements.{All-weaker}
 use Rattle.label_engine.specs.Layer.{IsNewAt, Bucket, NextLayer}
@@ -79,8 +78,8 @@ loop-index-preserved g c =
     subst (λ l. AreRivals rules l call rivals) (sym next.growing.joined)
     (rivals_longer rules old layer call rivals (subst (λ l. AreRivals rules l call rivals) sliced c.in_ok-fill_bucket.ensures.rivals)
     (All-weaker (λ l. l.call < call) (λ l. l.call ≡ call → ⊥) (λ l low e. omega arith) layer next.below)) in
-    let row_is : c.close_bucket.new.rivals.items ≡ closed_rivals rules labels bucket rivals =
-    c.in_ok-close_bucket.ensures.rivals ∙ ap (closed_rivals rules labels bucket) (take_at rivals (drop (length rivals) c.index_mut-row.result.now.items) c.index_mut-row.result.now.len (omega (arith, c.fill_bucket.auto.rivals, c.deref_mut.ensures.len))) in
+    let row_is : c.close_bucket.new.rivals.items ≡ closed_rivals rules bucket rivals =
+    c.in_ok-close_bucket.ensures.rivals ∙ ap (closed_rivals rules bucket) (take_at rivals (drop (length rivals) c.index_mut-row.result.now.items) c.index_mut-row.result.now.len (omega (arith, c.fill_bucket.auto.rivals, c.deref_mut.ensures.len))) in
     let closed : AreRivals rules (labels ++ bucket) call c.close_bucket.new.rivals.items =
     subst (AreRivals rules (labels ++ bucket) call) (sym row_is)
     (rivals_closed rules laws labels bucket call rivals (next_fit rules moves laws fitting c.args.hops c.args.start old labels call c.requires.whole next) (bucket_fit rules moves laws fitting c.args.hops c.args.start old bucket call (length old) filled) at before) in

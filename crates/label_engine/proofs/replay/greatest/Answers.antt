@@ -1,9 +1,9 @@
 use Rattle.std.proofs.Common.{◌≡◌, Err, rules, sym, ap, ◌∙◌, subst}
-use Rattle.label_engine.specs.Cut.{Cut, cut, IsCut, cut_rules, cut_moves, relaxed}
+use Rattle.label_engine.specs.Cut.{Cut, cut, IsCut, cut_rules, flagged_moves, relaxed}
 use Rattle.label_engine.specs.Greatest.{is_open_tour, HasWalk}
 use Rattle.label_engine.specs.Settled.{HasMoreThan}
 use Rattle.label_engine.specs.declared.label.ReplayFail.TheVariants.{TooManyLabels}
-use Rattle.label_engine.proofs.Best.{too_many, few_enough}
+use Rattle.label_engine.proofs.Flagged.{too_many_flagged, few_flagged}
 use Rattle.label_engine.proofs.WalkLimits.{outcome_within}
 use Rattle.label_engine.proofs.replay.greatest.Goals as goal
 use Rattle.orienteering.specs.Duality.{BoundsTours}
@@ -16,9 +16,9 @@ returns-in_err-settled-clause-many c e =
     let is : IsCut m = record { instance = c.calls.ensures.instance; proper = c.requires.proper; fit = c.requires.fit; critical = c.requires.critical } in
     let moves_is : c.in_ok-moves.moves ≡ m = c.in_ok-moves.ensures ∙ c.new-cut.ensures in
     let failed : c.settle.result ≡ Err TooManyLabels = search rules in
-    too_many m is c.args.limit
-    (subst (λ n. HasMoreThan cut_rules (cut_moves m.problem (relaxed m)) c.args.limit n) c.calls.ensures.value
-    (subst (λ n. HasMoreThan cut_rules (cut_moves n.problem (relaxed n)) c.args.limit c.calls.result) moves_is (c.settle.ensures.many failed)))
+    too_many_flagged m is c.args.limit
+    (subst (λ n. HasMoreThan cut_rules (flagged_moves m) c.args.limit n) c.calls.ensures.value
+    (subst (λ n. HasMoreThan cut_rules (flagged_moves n) c.args.limit c.calls.result) moves_is (c.settle.ensures.many failed)))
 
 pub returns-clause-tours : goal.returns-clause-tours
 returns-clause-tours c =
@@ -32,10 +32,10 @@ returns-clause-few c =
     let m : Cut = cut c.args.inst.now c.args.ctx.now c.args.price.now c.args.critical.now in
     let is : IsCut m = record { instance = c.calls.ensures.instance; proper = c.requires.proper; fit = c.requires.fit; critical = c.requires.critical } in
     let moves_is : c.in_ok-moves.moves ≡ m = c.in_ok-moves.ensures ∙ c.new-cut.ensures in
-    few_enough m is c.args.limit
+    few_flagged m is c.args.limit
     (λ h. c.in_ok-settled.ensures.no_more
-    (subst (λ n. HasMoreThan cut_rules (cut_moves n.problem (relaxed n)) c.args.limit c.calls.result) (sym moves_is)
-    (subst (λ n. HasMoreThan cut_rules (cut_moves m.problem (relaxed m)) c.args.limit n) (sym c.calls.ensures.value) h)))
+    (subst (λ n. HasMoreThan cut_rules (flagged_moves n) c.args.limit c.calls.result) (sym moves_is)
+    (subst (λ n. HasMoreThan cut_rules (flagged_moves m) c.args.limit n) (sym c.calls.ensures.value) h)))
 
 pub returns-clause-within : goal.returns-clause-within
 returns-clause-within c =

@@ -1,7 +1,7 @@
 use Rattle.std.proofs.Common.{◌≡◌, ℕ, ◌+◌, ◌<◌, length, get_or}
 use Rattle.label_engine.specs.Cut.{IsVisit}
 use Rattle.label_engine.specs.declared.visit.Visit.{Visit}
-use Rattle.label_engine.proofs.priced_moves.PricedMoves.of.Given as goal
+use Rattle.label_engine.proofs.flagged_moves.FlaggedMoves.of.Given as goal
 
 abbrev pub invariant-loop-index : goal.invariant-loop-index
 invariant-loop-index l = record {
