@@ -8,7 +8,7 @@ use orienteering::{Node, Point};
 use pool_cols::Pool;
 use std::alloc::{AllocError, Global};
 
-/// An open corner, and the master's value at it.
+/// An open corner, and the master's value at it, in parts of a scaled unit of time: above 0 where a price may leave it out.
 #[derive(Clone, Copy, Debug, PartialEq, Eq)]
 pub(crate) struct Aim {
     pub point: Point,

@@ -25,11 +25,11 @@ const MOST_REPLAYS: u32 = 400;
 /// How many replays a cut that lifts a box may take.
 const MOST_LIFTS: u32 = 60;
 
-/// How many walks put the calls that they repeat into a critical set.
-const MOST_REPEATED: usize = 3;
-
 /// How many labels such a replay may keep.
 const MOST_LIFT_LABELS: u64 = 20_000;
+
+/// How many walks put the calls that they repeat into a critical set.
+const MOST_REPEATED: usize = 3;
 
 /// What a search goes on with at a node.
 #[derive(Drop)]
@@ -370,16 +370,16 @@ impl Reaching {
     }
 }
 
-/// The farthest price at the low end of the box that few replays find.
+/// The farthest price at the low end of the box that few replays with few labels find.
 fn farthest(
     alloc: Global,
     search: &Search<'_>,
-    regions: &Regions<'_>,
+    few: &Regions<'_>,
     pool: &mut Pool,
     learned: &mut Learned,
     area: Box2,
 ) -> Result<Option<Found>, AllocError>
-    requires { IsProperIn regions.now search.now.ctx.now }
+    requires { IsProperIn few.now search.now.ctx.now }
 {
     let corner = [Point {
         profit: area.p_lo,
@@ -395,14 +395,7 @@ fn farthest(
     for _ in 0..MOST_LIFTS {
         master.solve(alloc)?;
         let price = master.price(alloc, search.ctx)?;
-        let Some(walks) = better_walks(
-            alloc,
-            search,
-            regions,
-            &master,
-            &price,
-            critical.as_slice(),
-        )?
+        let Some(walks) = better_walks(alloc, search, few, &master, &price, critical.as_slice())?
         else {
             break;
         };

@@ -43,9 +43,6 @@ pub(crate) struct PricedStrategy {
     lifted: Vec<Point>,
 }
 
-/// How many calls are taken out of a plan of the ladder.
-const MOST_TAKEN_OUT: u32 = 100;
-
 /// How many arcs with mirrors are kept.
 const MOST_EDGES: usize = 64;
 
@@ -108,7 +105,7 @@ impl PricedStrategy {
     ) -> Result<(), AllocError> {
         self.learn_plan(alloc, regions, archive, learned, &plan)?;
         let mut left = plan;
-        for _ in 0..MOST_TAKEN_OUT {
+        for _ in 0..regions.inst.calls() {
             match lightened(alloc, regions, &left)? {
                 Some(rest) => left = rest,
                 None => return Ok(()),
