@@ -165,24 +165,25 @@ fn replayed(
     replay_cut(alloc, search.regions, search.ctx, price, critical)
 }
 
-/// A cut whose bound is replayed, unless its price isn't fit or has too many labels.
+/// A cut whose bound is replayed and leaves out all of the corners, unless its price isn't fit or has too many labels.
 fn replayed_cut(
     alloc: Global,
     search: &Search<'_>,
-    price: Price,
-    critical: Vec<u32>,
+    found: Found,
+    corners: &[Point],
 ) -> Result<Option<Proposal>, AllocError>
     requires { IsProperIn search.now.regions.now search.now.ctx.now }
     ensures { IfOk result (λ found. IfSome found (IsReplayed (rules_of search.now.regions.now) search.now.ctx.now)) }
 {
-    let Some(bound) = replayed(alloc, search, &price, critical.as_slice())? else {
-        return Ok(None);
-    };
-    Ok(Some(Proposal::Replayed {
-        price,
-        critical: Tour::from_calls(critical),
-        bound,
-    }))
+    let Found { price, critical } = found;
+    match replayed(alloc, search, &price, critical.as_slice())? {
+        Some(bound) if closes_all(&price, bound, corners) => Ok(Some(Proposal::Replayed {
+            price,
+            critical: Tour::from_calls(critical),
+            bound,
+        })),
+        _ => Ok(None),
+    }
 }
 
 /// The walks of a price that are worth more than the master's tours.
@@ -193,9 +194,7 @@ fn better_walks(
     master: &Master,
     price: &Price,
     critical: &[u32],
-) -> Result<Option<Walks>, AllocError>
-    requires { IsProperIn regions.now search.now.ctx.now }
-{
+) -> Result<Option<Walks>, AllocError> {
     let slack = i128::from(price.beta / 100 + 1);
     let above = master.level(price.beta).saturating_add(slack);
     best_walks(alloc, regions, search.ctx, price, critical, above)
@@ -272,7 +271,7 @@ pub(crate) fn price_for(
     ensures { IfOk result (λ found. IfSome found (IsReplayed (rules_of search.now.regions.now) search.now.ctx.now)) }
 {
     match closing_price(alloc, search, pool, learned, corners)? {
-        Some(found) => replayed_cut(alloc, search, found.price, found.critical),
+        Some(found) => replayed_cut(alloc, search, found, corners),
         None => Ok(None),
     }
 }
@@ -291,9 +290,7 @@ fn closing_price(
     pool: &mut Pool,
     learned: &mut Learned,
     corners: &[Point],
-) -> Result<Option<Found>, AllocError>
-    requires { IsProperIn search.now.regions.now search.now.ctx.now }
-{
+) -> Result<Option<Found>, AllocError> {
     let known = learned.plans.len();
     let mut master = open_master(alloc, search, pool, corners)?;
     let mut critical = Vec::new(alloc);
@@ -378,9 +375,7 @@ fn farthest(
     pool: &mut Pool,
     learned: &mut Learned,
     area: Box2,
-) -> Result<Option<Found>, AllocError>
-    requires { IsProperIn few.now search.now.ctx.now }
-{
+) -> Result<Option<Found>, AllocError> {
     let corner = [Point {
         profit: area.p_lo,
         time: area.t_hi,
@@ -433,7 +428,7 @@ pub(crate) fn price_to_lift(
         labels: search.regions.labels.min(MOST_LIFT_LABELS),
     };
     match farthest(alloc, search, &few, pool, learned, area)? {
-        Some(found) => replayed_cut(alloc, search, found.price, found.critical),
+        Some(found) => replayed_cut(alloc, search, found, &[]),
         None => Ok(None),
     }
 }

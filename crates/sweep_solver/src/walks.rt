@@ -1,128 +1,83 @@
-//! The best walks of a replay, for the pool and for critical sets. They are advice: the bound of a cut that is proposed comes from
+//! The best walks of a price, for the pool and for critical sets. They are advice: the bound of a cut that is proposed comes from
 //! a replay of its own.
 
-ghost use Rattle.sweep_solver.specs.Rules.{IsProperIn};
-
+use crate::fronts::{Front, settled};
+use crate::legs::Legs;
 use crate::regions::Regions;
-use label_engine::{CutMoves, CutState, Label, ReplayFail, settle};
 use orienteering::{Price, Tour};
-use price_bound::check_price;
-use proof_check::is_critical_set;
 use region_ctx::Context;
-use site_model::Instance;
 use std::alloc::{AllocError, Global};
 
-/// How many walks of a replay are looked at.
+/// How many walks of a price are looked at.
 const MOST_WALKS: usize = 40;
 
-/// The bound that a replay seems to give, and walks above a value, the greatest first.
+/// The bound that a price seems to have, and walks above a value, the greatest first.
 #[derive(Drop)]
 pub(crate) struct Walks {
     pub bound: i128,
     pub best: Vec<Tour>,
 }
 
-/// The place of a label whose walk goes to the end, and its value.
+/// The place of a front whose walk goes to the end, and what the walk is worth below 0.
 #[derive(Clone, Copy, Debug, PartialEq, Eq)]
 struct Closed {
     place: usize,
-    value: i128,
+    loss: i64,
 }
 
-/// What the walk of a label is worth at the end, where it may go there in time.
-fn closed_value(
-    inst: &Instance,
-    ctx: &Context,
-    price: &Price,
-    label: &Label<CutState>,
-) -> Option<i128> {
-    let end = inst.calls() + 1;
-    let call = label.call;
-    if call >= end || !ctx.is_open(call, end) {
-        return None;
-    }
-    let length = inst.length(call, end);
-    let arrival = label
-        .state
-        .a
-        .at
-        .saturating_add(inst.service(call))
-        .saturating_add(length);
-    if inst.closing(end) < arrival {
-        return None;
-    }
-    let paid = i128::from(price.beta).saturating_mul(i128::from(length));
-    Some(label.state.b.b.sum.saturating_sub(paid))
-}
-
-/// How many of the best are worth at least as much.
-fn rank(best: &[Closed], value: i128) -> usize {
-    for (place, held) in best.iter().enumerate() {
-        if held.value < value {
-            return place;
-        }
-    }
-    best.len()
-}
-
-/// Keeps the label among the best, which stand by falling value.
+/// Keeps the walk among the best, which stand by falling value.
 fn keep_best(best: &mut Vec<Closed>, closed: Closed) -> Result<(), AllocError> {
-    let place = rank(best.as_slice(), closed.value);
-    if place < MOST_WALKS {
-        best.insert(place.min(best.len()), closed)?;
+    let rank = best
+        .as_slice()
+        .partition_point(|held| held.loss <= closed.loss);
+    if rank < MOST_WALKS {
+        best.insert(rank, closed)?;
         best.truncate(MOST_WALKS);
     }
     Ok(())
 }
 
-/// The best labels by falling value.
-fn best_closed(
-    alloc: Global,
-    inst: &Instance,
-    ctx: &Context,
-    price: &Price,
-    labels: &[Label<CutState>],
-) -> Result<Vec<Closed>, AllocError> {
+/// The walks that are worth most.
+fn best_closed(alloc: Global, legs: &Legs, fronts: &[Front]) -> Result<Vec<Closed>, AllocError> {
     let mut best = Vec::new(alloc);
-    for (place, label) in labels.iter().enumerate() {
-        if let Some(value) = closed_value(inst, ctx, price, label) {
-            keep_best(&mut best, Closed { place, value })?;
+    for (place, front) in fronts.iter().enumerate().skip(1) {
+        if let Some(leg) = legs.leg_home(front.call) {
+            let loss = front.loss.saturating_sub(leg.worth);
+            keep_best(&mut best, Closed { place, loss })?;
         }
     }
     Ok(best)
 }
 
-/// The calls of the walk of a label.
-fn walk_of(alloc: Global, labels: &[Label<CutState>], place: usize) -> Result<Tour, AllocError> {
+/// The calls of the walk of a front.
+fn walk_of(alloc: Global, fronts: &[Front], place: usize) -> Result<Tour, AllocError> {
     let mut calls = Vec::new(alloc);
     let mut at = place;
-    for _ in 0..labels.len() {
-        let Some(label) = labels.get(at) else {
-            break;
-        };
-        calls.push(label.call)?;
-        match label.parent {
-            Some(parent) => at = parent as usize,
-            None => break,
+    for _ in 0..fronts.len() {
+        match fronts.get(at) {
+            Some(front) if front.call > 0 => {
+                calls.push(front.call)?;
+                at = front.parent;
+            }
+            _ => break,
         }
     }
     calls.reverse();
     Ok(Tour::from_calls(calls))
 }
 
-/// The bound of a price with a greatest value.
-fn bound_with(ctx: &Context, price: &Price, sigma: Option<i128>) -> i128 {
+/// The bound of a price whose best walk is worth so much.
+fn bound_with(ctx: &Context, price: &Price, worth: i128) -> i128 {
     let mut bound: i128 = 0;
     for (_, part) in price.pi.list() {
         bound = bound.saturating_add(i128::from(*part));
     }
     let (fewest, most) = ctx.counts();
-    let sigma = sigma.unwrap_or(0);
-    let tours = if sigma < 0 { fewest } else { most };
-    bound.saturating_add(sigma.saturating_mul(i128::from(tours)))
+    let tours = if worth < 0 { fewest } else { most };
+    bound.saturating_add(worth.saturating_mul(i128::from(tours)))
 }
 
-/// Replays a price, unless it isn't fit or has too many labels.
+/// The best walks of a price, none where it has too many fronts.
 pub(crate) fn best_walks(
     alloc: Global,
     regions: &Regions<'_>,
@@ -130,32 +85,21 @@ pub(crate) fn best_walks(
     price: &Price,
     critical: &[u32],
     above: i128,
-) -> Result<Option<Walks>, AllocError>
-    requires { IsProperIn regions.now ctx.now }
-{
-    let inst = regions.inst;
-    if check_price(inst, ctx, price).is_err() || !is_critical_set(inst.calls(), critical) {
+) -> Result<Option<Walks>, AllocError> {
+    let legs = Legs::of(alloc, regions.inst, ctx, price, critical)?;
+    let Some(fronts) = settled(alloc, &legs, regions.labels)? else {
         return Ok(None);
-    }
-    let moves = CutMoves::new(alloc, inst, ctx, price, critical);
-    let settled = match settle(alloc, &moves, inst.calls(), regions.labels) {
-        Ok(settled) => settled,
-        Err(ReplayFail::TooManyLabels) => return Ok(None),
-        Err(ReplayFail::Memory) => return Err(AllocError),
     };
-    let closed = best_closed(alloc, inst, ctx, price, settled.labels())?;
-    let sigma = match closed.first() {
-        Some(first) => Some(first.value),
-        None => None,
-    };
+    let closed = best_closed(alloc, &legs, fronts.as_slice())?;
+    let worth = closed.first().map_or(0, |first| -i128::from(first.loss));
     let mut best = Vec::new(alloc);
     for one in closed {
-        if above < one.value {
-            best.push(walk_of(alloc, settled.labels(), one.place)?)?;
+        if above < -i128::from(one.loss) {
+            best.push(walk_of(alloc, fronts.as_slice(), one.place)?)?;
         }
     }
     Ok(Some(Walks {
-        bound: bound_with(ctx, price, sigma),
+        bound: bound_with(ctx, price, worth),
         best,
     }))
 }
