@@ -7,3 +7,5 @@ pub mod Starts
 pub mod Boxes
 pub mod Solving
 pub mod Trees
+pub mod Kept
+pub mod GoingOn

@@ -4,3 +4,4 @@ pub mod Narrowing
 pub mod Weights
 pub mod Solved
 pub mod Trees
+pub mod Resumed

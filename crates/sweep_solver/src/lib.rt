@@ -27,6 +27,7 @@ mod program;
 mod regions;
 mod replay;
 mod resort;
+mod resuming;
 mod search;
 mod strategy;
 #[cfg(test)]
@@ -36,3 +37,4 @@ mod walks;
 mod world;
 
 pub use options::{Options, solve};
+pub use resuming::resume;

@@ -1,8 +1,13 @@
 //! A certificate that is grown from one open node and starting plans.
 
-ghost use Rattle.std.specs.Prelude.{◌≡◌, ◌∷◌, [], true, IfOk};
-ghost use Rattle.growth.specs.Growth.{Improves, IsArchive};
+ghost use Rattle.std.specs.Prelude.{◌≡◌, ◌∷◌, [], List, IfOk, Ok};
+ghost use Rattle.growth.specs.Growth.{Continues, Improves, IsArchive};
+ghost use Rattle.orienteering.specs.Decide.{region_rules};
+ghost use Rattle.orienteering.specs.Decision.{Branch, read_nodes};
 ghost use Rattle.orienteering.specs.Instance.{calls};
+ghost use Rattle.orienteering.specs.Preorder.{Leaf};
+ghost use Rattle.orienteering.specs.Region.{Region, root};
+ghost use Rattle.orienteering.specs.declared.Node.{Node};
 ghost use Rattle.orienteering.specs.declared.Node.TheVariants.{Left};
 ghost use Rattle.sweep_solver.specs.Solved.{CoversPlans, IsAccepted, KeepsBudget};
 ghost use Rattle.sweep_solver.specs.Trees.{IsClosedWithin, IsTreeWithin};
@@ -28,7 +33,11 @@ fn open_tree(alloc: Global) -> Result<Vec<Node>, AllocError>
 }
 
 /// The archive of the empty plan and of those of these lists of tours that are plans.
-fn archive_of(alloc: Global, inst: &Instance, starts: Vec<Plan>) -> Result<Archive, AllocError>
+pub(crate) fn archive_of(
+    alloc: Global,
+    inst: &Instance,
+    starts: Vec<Plan>,
+) -> Result<Archive, AllocError>
     ensures archive { IfOk result (IsArchive inst.now) }
     ensures covered { IfOk result (CoversPlans inst.now starts.items) }
 {
@@ -42,7 +51,7 @@ fn archive_of(alloc: Global, inst: &Instance, starts: Vec<Plan>) -> Result<Archi
 }
 
 /// The certificate of these points and nodes.
-fn certificate_of(
+pub(crate) fn certificate_of(
     alloc: Global,
     inst: &Instance,
     archive: &Archive,
@@ -68,7 +77,7 @@ fn certificate_of(
 
 /// Offers all these lists of tours to the archive.
 #[tactic(auto, using(growth::proofs::Archives::improves_same))]
-fn offer_all(
+pub(crate) fn offer_all(
     alloc: Global,
     inst: &Instance,
     archive: &mut Archive,
@@ -86,7 +95,7 @@ fn offer_all(
 
 /// A strategy that has learned the tours of the archive. The better plans that they make together are in the archive then.
 #[tactic(auto, using(growth::proofs::Archives::improves_same))]
-fn begun(
+pub(crate) fn begun(
     alloc: Global,
     regions: &Regions<'_>,
     archive: &mut Archive,
@@ -104,7 +113,7 @@ fn begun(
 
 /// Grows the open nodes of a tree.
 #[tactic(auto, using(growth::proofs::Archives::improves_same))]
-fn grow(
+pub(crate) fn grow(
     alloc: Global,
     regions: &Regions<'_>,
     archive: &mut Archive,
@@ -118,6 +127,9 @@ fn grow(
     ensures improved { Improves archive.old archive.new }
     ensures tree { IfOk result (λ grown. IsTreeWithin regions.now.inst.now regions.now.labels archive.new limit grown.items) }
     ensures closed { IfOk result (λ grown. IsClosedWithin limit grown.items) }
+    ensures continued { IfOk result (λ grown. (old : List (Leaf (Branch Region) Node)) →
+        read_nodes (region_rules regions.now.inst.now regions.now.labels) archive.old (root regions.now.inst.now) nodes.items ≡ Ok old →
+        Continues (region_rules regions.now.inst.now regions.now.labels) archive.new (root regions.now.inst.now) limit old grown.items) }
 {
     let root = Context::root(alloc, regions.inst)?;
     grow_certificate(alloc, regions, archive, strategy, root, nodes, limit)

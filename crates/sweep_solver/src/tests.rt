@@ -1,4 +1,5 @@
 use crate::search::solve_from;
+use crate::{Options, resume, solve};
 use cert_text::Cert;
 use fixed_num::Scale;
 use orienteering::{Node, Place, Plan, Tour};
@@ -72,6 +73,33 @@ fn stops_at_its_budget(rt: HostRuntime) -> Result<(), Fail> {
         assert!(rt; nodes == budget || nodes == budget + 1);
         assert!(rt; open_nodes(&cert) > 0);
     }
+    Ok(())
+}
+
+#[test]
+fn goes_on_from_a_certificate(rt: HostRuntime) -> Result<(), Fail> {
+    let alloc = rt.alloc();
+    let inst = triangle(alloc)?;
+    let stopping = Options {
+        nodes: Some(2),
+        labels: LABELS,
+        workers: 1,
+        seed: 0,
+    };
+    let first = solve(&rt, alloc, &inst, &stopping)?;
+    let second = resume(&rt, alloc, &inst, &first, &stopping)?;
+    let more = second.nodes().len().saturating_sub(first.nodes().len());
+    assert!(rt; more == 2 || more == 3);
+    assert!(rt; open_nodes(&second) > 0);
+    let closing = Options {
+        nodes: None,
+        ..stopping
+    };
+    let last = resume(&rt, alloc, &inst, &second, &closing)?;
+    assert_eq!(rt; open_nodes(&last), 0);
+    assert_eq!(rt; last.points().len(), 3);
+    let again = resume(&rt, alloc, &inst, &last, &closing)?;
+    assert_eq!(rt; again.nodes().len(), last.nodes().len());
     Ok(())
 }
 

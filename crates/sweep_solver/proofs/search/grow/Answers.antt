@@ -1,4 +1,5 @@
 use Rattle.std.proofs.Common.{◌≡◌, sym, subst, List}
+use Rattle.std.specs.Result.{IfOk}
 use Rattle.std.specs.declared.result.Result.TheVariants.{Ok}
 use Rattle.orienteering.specs.Region.{IsProper, Region}
 use Rattle.orienteering.specs.Preorder.{Leaf}
@@ -57,3 +58,12 @@ returns-clause-closed c =
     (λ grown. IsClosedWithin c.args.limit grown.items)
     (λ grown continues. (continues tree.leaves old).closed)
     c.grow_certificate.ensures.grown
+
+pub returns-clause-continued : goal.returns-clause-continued
+returns-clause-continued c =
+    let p = c.args.regions.now.inst.now in
+    let rules = region_rules p c.args.regions.now.labels in
+    let points = c.grow_certificate.new.archive in
+    subst (λ (r : Region). IfOk c.grow_certificate.result (λ grown. (old : List (Leaf (Branch Region) Node)) →
+    read_nodes rules c.args.archive.now r c.args.nodes.items ≡ Ok old →
+    Continues rules points r c.args.limit old grown.items)) c.in_ok-root.ensures c.grow_certificate.ensures.grown
