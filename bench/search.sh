@@ -1,8 +1,10 @@
 #!/bin/bash
 # Solves generated instances of 5 to 30 calls in the three profiles, seeds 1 to 3, at scale 100 within 20000 nodes (or as many as
 # are given), and prints nodes, cuts, points, boxes left, their share of the root's profits times times, and the processor time
-# of solve and of check: ./bench/search.sh [NODES [CALLS..]]
+# of solve and of check: ./bench/search.sh [NODES [CALLS..]]. PROFILES and SEEDS, where they are set, are those that are run, and
+# PROGRAM is the program.
 top=$(cd "$(dirname "$0")/.." && pwd)
+program=${PROGRAM:-$top/frontier}
 work=$(mktemp -d) || exit 1
 trap 'rm -rf "$work"' EXIT
 nodes=${1:-20000}
@@ -45,13 +47,13 @@ share() {
 }
 
 echo "profile calls seed: nodes cuts points boxes share solve check"
-for profile in op top toptw; do
+for profile in ${PROFILES:-op top toptw}; do
     for calls in $sizes; do
-        for seed in 1 2 3; do
-            "$top/frontier" generate $seed $calls --format $profile > "$work/instance"
-            solve=$( { time "$top/frontier" solve "$work/instance" --cert "$work/certificate" --format $profile --scale 100 \
+        for seed in ${SEEDS:-1 2 3}; do
+            "$program" generate $seed $calls --format $profile > "$work/instance"
+            solve=$( { time "$program" solve "$work/instance" --cert "$work/certificate" --format $profile --scale 100 \
                 --nodes "$nodes" > "$work/report" 2> "$work/error"; } 2>&1 )
-            check=$( { time "$top/frontier" check "$work/instance" "$work/certificate" --format $profile --scale 100 \
+            check=$( { time "$program" check "$work/instance" "$work/certificate" --format $profile --scale 100 \
                 > "$work/again" 2>> "$work/error"; } 2>&1 )
             cmp -s "$work/report" "$work/again" || echo "the reports differ"
             echo "$profile $calls $seed: $(awk '/^nodes/ { print $2 }' "$work/certificate")" \
