@@ -1,10 +1,10 @@
 -- Each command line is one of which clap promises what it makes of the words.
-use Rattle.std.proofs.Common.{◌≡◌, List, [], ◌∷◌, ◌++◌, codes, refl}
+use Rattle.std.proofs.Common.{◌≡◌, List, [], ◌∷◌, codes, refl}
 use Rattle.clap.specs.Words.{Text}
 use Rattle.clap.proofs.OnLiterals.{clap_on_literals}
-use Rattle.command_line.specs.Lines.{IsPlainApp, app_by, check_app, demo_app, generate_app, settings_options, simple_app, solve_app}
+use Rattle.command_line.specs.Lines.{IsPlainApp, app_by, check_app, demo_app, generate_app, resume_app, search_options, settings_options, simple_app, solve_app}
 use Rattle.command_line.specs.declared.line.CommandName.{CommandName}
-use Rattle.command_line.specs.declared.line.CommandName.TheVariants.{Check, Solve, Generate, Demo}
+use Rattle.command_line.specs.declared.line.CommandName.TheVariants.{Check, Solve, Resume, Generate, Demo}
 
 -- ---- the words of each line
 
@@ -22,11 +22,21 @@ abbrev pub solve_names : List Text
 solve_names = codes "INSTANCE" ∷ []
 
 abbrev pub solve_options : List Text
-solve_options = settings_options ++ (codes "cert" ∷ codes "nodes" ∷ codes "seed" ∷ [])
+solve_options = search_options
 
 pub solve_app-is : simple_app (codes "solve") solve_names solve_options ≡ solve_app
 unfolding solve_app
 solve_app-is = refl
+
+abbrev pub resume_names : List Text
+resume_names = codes "INSTANCE" ∷ codes "CERT" ∷ []
+
+abbrev pub resume_options : List Text
+resume_options = search_options
+
+pub resume_app-is : simple_app (codes "resume") resume_names resume_options ≡ resume_app
+unfolding resume_app
+resume_app-is = refl
 
 abbrev pub generate_names : List Text
 generate_names = codes "SEED" ∷ codes "CALLS" ∷ []
@@ -58,6 +68,10 @@ solve_is_plain : IsPlainApp solve_app
 unfolding clap_on_literals solve_app
 solve_is_plain = (refl, refl)
 
+resume_is_plain : IsPlainApp resume_app
+unfolding clap_on_literals resume_app
+resume_is_plain = (refl, refl)
+
 generate_is_plain : IsPlainApp generate_app
 unfolding clap_on_literals generate_app
 generate_is_plain = (refl, refl)
@@ -69,5 +83,6 @@ demo_is_plain = (refl, refl)
 pub line_is_plain : (name : CommandName) → IsPlainApp (app_by name)
 line_is_plain Check = check_is_plain
 line_is_plain Solve = solve_is_plain
+line_is_plain Resume = resume_is_plain
 line_is_plain Generate = generate_is_plain
 line_is_plain Demo = demo_is_plain

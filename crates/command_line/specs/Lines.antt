@@ -6,7 +6,7 @@ use Rattle.clap.specs.Words.{App, Row, Rule, Text, fault_of, is_simple, is_simpl
 use Rattle.clap.specs.declared.builder.action.ArgAction.TheVariants.{Set}
 use Rattle.command_line.specs.declared.line.CommandLine.{CommandLine}
 use Rattle.command_line.specs.declared.line.CommandName.{CommandName}
-use Rattle.command_line.specs.declared.line.CommandName.TheVariants.{Check, Solve, Generate, Demo}
+use Rattle.command_line.specs.declared.line.CommandName.TheVariants.{Check, Solve, Resume, Generate, Demo}
 use Rattle.command_line.specs.declared.line.Entry.{Entry}
 
 -- an argument that is known by its place
@@ -41,9 +41,15 @@ settings_options = codes "format" ∷ codes "scale" ∷ codes "team" ∷ codes "
 unfoldable pub check_app : App
 check_app = simple_app (codes "check") (codes "INSTANCE" ∷ codes "CERT" ∷ []) settings_options
 
+-- the options of the commands that search for a certificate
+abbrev pub search_options : List Text
+search_options = settings_options ++ (codes "cert" ∷ codes "nodes" ∷ codes "seed" ∷ [])
+
 unfoldable pub solve_app : App
-solve_app = simple_app (codes "solve") (codes "INSTANCE" ∷ [])
-    (settings_options ++ (codes "cert" ∷ codes "nodes" ∷ codes "seed" ∷ []))
+solve_app = simple_app (codes "solve") (codes "INSTANCE" ∷ []) search_options
+
+unfoldable pub resume_app : App
+resume_app = simple_app (codes "resume") (codes "INSTANCE" ∷ codes "CERT" ∷ []) search_options
 
 unfoldable pub generate_app : App
 generate_app = simple_app (codes "generate") (codes "SEED" ∷ codes "CALLS" ∷ []) (codes "format" ∷ [])
@@ -54,14 +60,16 @@ demo_app = simple_app (codes "demo") (codes "SEED" ∷ codes "CALLS" ∷ []) (co
 abbrev pub app_by : CommandName → App
 app_by Check = check_app
 app_by Solve = solve_app
+app_by Resume = resume_app
 app_by Generate = generate_app
 app_by Demo = demo_app
 
 abbrev pub command_named : Text → Option CommandName
 command_named text = if bytes_eq text (codes "check") then Some Check
     else (if bytes_eq text (codes "solve") then Some Solve
+    else (if bytes_eq text (codes "resume") then Some Resume
     else (if bytes_eq text (codes "generate") then Some Generate
-    else (if bytes_eq text (codes "demo") then Some Demo else None)))
+    else (if bytes_eq text (codes "demo") then Some Demo else None))))
 
 -- ---- the lines of the program
 

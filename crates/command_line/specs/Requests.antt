@@ -6,6 +6,7 @@ use Rattle.command_line.specs.Limits.{AreSettingsWithin, IsBetween}
 use Rattle.command_line.specs.Values.{format_in, number_if, number_in, number_or, settings_in}
 use Rattle.command_line.specs.declared.command.CheckCommand.{CheckCommand}
 use Rattle.command_line.specs.declared.command.SolveCommand.{SolveCommand}
+use Rattle.command_line.specs.declared.command.ResumeCommand.{ResumeCommand}
 use Rattle.command_line.specs.declared.command.GenerateCommand.{GenerateCommand}
 use Rattle.command_line.specs.declared.command.DemoCommand.{DemoCommand}
 use Rattle.command_line.specs.declared.command.Command.{Command}
@@ -30,6 +31,15 @@ pub record SolveRequest : Type 0 where
   pub nodes : Option ℕ
   pub seed : ℕ
 
+-- a certificate of the instance is gone on from, and the new one put under a name
+pub record ResumeRequest : Type 0 where
+  pub instance : Text
+  pub certificate : Text
+  pub out : Text
+  pub settings : Settings
+  pub nodes : Option ℕ
+  pub seed : ℕ
+
 -- an instance is generated
 abbrev pub GenerateRequest : Type 0
 GenerateRequest = GenerateCommand
@@ -41,6 +51,7 @@ DemoRequest = DemoCommand
 pub data Request : Type 0 where
   Check : CheckRequest → Request
   Solve : SolveRequest → Request
+  Resume : ResumeRequest → Request
   Generate : GenerateCommand → Request
   Demo : DemoCommand → Request
 
@@ -71,6 +82,23 @@ solve_request_in rows = option_and_then (λ instance. option_and_then (λ out.
     (first_of (codes "cert") rows))
     (first_of (codes "INSTANCE") rows)
 
+abbrev pub resume_request_in : List Row → Option Request
+resume_request_in rows = option_and_then (λ instance. option_and_then (λ certificate. option_and_then (λ out.
+    option_and_then (λ settings. option_and_then (λ nodes.
+    option_map (λ seed. Resume (record {
+      instance = instance;
+      certificate = certificate;
+      out = out;
+      settings = settings;
+      nodes = nodes;
+      seed = seed;
+    })) (number_or (codes "seed") 0 18446744073709551615 0 rows))
+    (number_if (codes "nodes") 1 18446744073709551615 rows))
+    (settings_in rows))
+    (first_of (codes "cert") rows))
+    (first_of (codes "CERT") rows))
+    (first_of (codes "INSTANCE") rows)
+
 abbrev pub generate_request_in : List Row → Option Request
 generate_request_in rows = option_and_then (λ seed. option_and_then (λ calls.
     option_map (λ format. Generate (record { seed = seed; calls = calls; format = format }))
@@ -88,6 +116,7 @@ demo_request_in rows = option_and_then (λ seed. option_and_then (λ calls.
 abbrev pub request_given : CommandName → List Row → Option Request
 request_given name.Check rows = check_request_in rows
 request_given name.Solve rows = solve_request_in rows
+request_given name.Resume rows = resume_request_in rows
 request_given name.Generate rows = generate_request_in rows
 request_given name.Demo rows = demo_request_in rows
 
@@ -117,15 +146,30 @@ solve_request c = record {
   seed = c.seed;
 }
 
+abbrev pub resume_request : ResumeCommand → ResumeRequest
+resume_request c = record {
+  instance = c.instance.now;
+  certificate = c.certificate.now;
+  out = c.out.now;
+  settings = c.settings;
+  nodes = c.nodes;
+  seed = c.seed;
+}
+
 abbrev pub request_of : Command → Request
 request_of (command.Check c) = Check (check_request c)
 request_of (command.Solve c) = Solve (solve_request c)
+request_of (command.Resume c) = Resume (resume_request c)
 request_of (command.Generate c) = Generate c
 request_of (command.Demo c) = Demo c
 
 -- ---- what callers may rely on
 
 pub record IsSolveWithin (r : SolveRequest) : Type 0 where
+  pub settings : AreSettingsWithin r.settings
+  pub nodes : IfSome r.nodes (λ n. 1 ≤ n)
+
+pub record IsResumeWithin (r : ResumeRequest) : Type 0 where
   pub settings : AreSettingsWithin r.settings
   pub nodes : IfSome r.nodes (λ n. 1 ≤ n)
 
@@ -137,5 +181,6 @@ pub record IsDemoWithin (d : DemoCommand) : Type 0 where
 abbrev pub IsWithinLimits : Request → Type 0
 IsWithinLimits (Check r) = AreSettingsWithin r.settings
 IsWithinLimits (Solve r) = IsSolveWithin r
+IsWithinLimits (Resume r) = IsResumeWithin r
 IsWithinLimits (Generate g) = g.calls ≤ 300
 IsWithinLimits (Demo d) = IsDemoWithin d

@@ -2,7 +2,7 @@
 
 ghost use Rattle.std.specs.Prelude.{◌≡◌, IfSome, option_map};
 ghost use Rattle.clap.specs.Words.{found_of, rows_of};
-ghost use Rattle.command_line.specs.Requests.{check_request_in, solve_request_in, generate_request_in, demo_request_in};
+ghost use Rattle.command_line.specs.Requests.{check_request_in, solve_request_in, resume_request_in, generate_request_in, demo_request_in};
 ghost use Rattle.command_line.specs.Requests.{request_given, request_of, IsWithinLimits};
 
 use crate::given::{format_given, number_given, number_given_if, number_given_or, settings_given};
@@ -32,6 +32,20 @@ pub struct SolveCommand<'a> {
     pub seed: u64,
 }
 
+/// A certificate of the instance is gone on from, and the new one put under a name. The names may be the same.
+#[derive(Clone, Copy, Debug, PartialEq, Eq)]
+pub struct ResumeCommand<'a> {
+    pub instance: &'a str,
+    pub certificate: &'a str,
+    /// The name under which the new certificate is put.
+    pub out: &'a str,
+    pub settings: Settings,
+    /// How many nodes more the certificate gets until the search stops, at least 1; without it the search goes on to the end.
+    pub nodes: Option<u64>,
+    /// The seed of the starting plans.
+    pub seed: u64,
+}
+
 /// An instance is generated and printed.
 #[derive(Clone, Copy, Debug, PartialEq, Eq)]
 pub struct GenerateCommand {
@@ -56,6 +70,7 @@ pub struct DemoCommand {
 pub enum Command<'a> {
     Check(CheckCommand<'a>),
     Solve(SolveCommand<'a>),
+    Resume(ResumeCommand<'a>),
     Generate(GenerateCommand),
     Demo(DemoCommand),
 }
@@ -85,6 +100,26 @@ fn solve_given<'a>(matches: &ArgMatches<'a>) -> Option<Command<'a>>
     let seed = number_given_or(matches, "seed", 0, u64::MAX, 0)?;
     Some(Command::Solve(SolveCommand {
         instance,
+        out,
+        settings,
+        nodes,
+        seed,
+    }))
+}
+
+fn resume_given<'a>(matches: &ArgMatches<'a>) -> Option<Command<'a>>
+    ensures value { option_map request_of result ≡ resume_request_in (rows_of (found_of matches.now)) }
+    ensures within { IfSome result (λ command. IsWithinLimits (request_of command)) }
+{
+    let instance = given(matches, "INSTANCE")?;
+    let certificate = given(matches, "CERT")?;
+    let out = given(matches, "cert")?;
+    let settings = settings_given(matches)?;
+    let nodes = number_given_if(matches, "nodes", 1, u64::MAX)?;
+    let seed = number_given_or(matches, "seed", 0, u64::MAX, 0)?;
+    Some(Command::Resume(ResumeCommand {
+        instance,
+        certificate,
         out,
         settings,
         nodes,
@@ -128,6 +163,7 @@ pub(crate) fn command_given<'a>(name: CommandName, matches: &ArgMatches<'a>) -> 
     match name {
         CommandName::Check => check_given(matches),
         CommandName::Solve => solve_given(matches),
+        CommandName::Resume => resume_given(matches),
         CommandName::Generate => generate_given(matches),
         CommandName::Demo => demo_given(matches),
     }

@@ -21,7 +21,9 @@ ghost use Rattle.command_line.specs.Refusals.{IfRefused};
 
 use crate::command::command_given;
 use crate::line::accepted_words;
-pub use command::{CheckCommand, Command, DemoCommand, GenerateCommand, SolveCommand};
+pub use command::{
+    CheckCommand, Command, DemoCommand, GenerateCommand, ResumeCommand, SolveCommand,
+};
 pub use line::CommandName;
 pub use refusal::{UNKNOWN_COMMAND, WordsFail, WordsRefusal};
 pub use settings::Settings;

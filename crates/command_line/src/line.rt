@@ -15,6 +15,7 @@ use std::alloc::{AllocError, Global};
 pub enum CommandName {
     Check,
     Solve,
+    Resume,
     Generate,
     Demo,
 }
@@ -28,6 +29,8 @@ impl CommandName {
             Some(CommandName::Check)
         } else if text == "solve" {
             Some(CommandName::Solve)
+        } else if text == "resume" {
+            Some(CommandName::Resume)
         } else if text == "generate" {
             Some(CommandName::Generate)
         } else if text == "demo" {
@@ -137,6 +140,20 @@ static SOLVE_OPTIONS: [Entry; 9] = [
     SEARCH_SEED,
 ];
 
+static RESUME_NAMES: [Entry; 2] = [INSTANCE, CERTIFICATE];
+
+static RESUME_OPTIONS: [Entry; 9] = [
+    FORMAT,
+    SCALE,
+    TEAM,
+    LABELS,
+    WORKERS,
+    STYLE,
+    OUT,
+    NODES,
+    SEARCH_SEED,
+];
+
 static GENERATE_NAMES: [Entry; 2] = [SEED, CALLS];
 
 static GENERATE_OPTIONS: [Entry; 1] = [FORMAT];
@@ -162,6 +179,12 @@ impl CommandName {
                 about: "Searches for a certificate of an instance, checks it, puts it and reports its points and boxes",
                 names: SOLVE_NAMES.as_slice(),
                 options: SOLVE_OPTIONS.as_slice(),
+            },
+            CommandName::Resume => CommandLine {
+                word: "resume",
+                about: "Goes on from a certificate of an instance, checks the new one, puts it and reports its points and boxes",
+                names: RESUME_NAMES.as_slice(),
+                options: RESUME_OPTIONS.as_slice(),
             },
             CommandName::Generate => CommandLine {
                 word: "generate",

@@ -58,6 +58,16 @@ fn takes_lines(rt: HostRuntime) -> Result<(), Fail> {
              labels: 2000000, workers: 1, style: Plain }, nodes: Some(18446744073709551615), seed: 9 })",
         ),
         (
+            "resume a.op p --cert q --format op --scale 1 --nodes 7",
+            "Resume(ResumeCommand { instance: \"a.op\", certificate: \"p\", out: \"q\", settings: Settings { format: Op, scale: One, \
+             team: None, labels: 1000000, workers: 1, style: Plain }, nodes: Some(7), seed: 0 })",
+        ),
+        (
+            "resume a --format top --cert=a a --seed 3 --workers 2",
+            "Resume(ResumeCommand { instance: \"a\", certificate: \"a\", out: \"a\", settings: Settings { format: Top, scale: Hundred, \
+             team: None, labels: 1000000, workers: 2, style: Plain }, nodes: None, seed: 3 })",
+        ),
+        (
             "generate 18446744073709551615 300 --format top",
             "Generate(GenerateCommand { seed: 18446744073709551615, calls: 300, format: Top })",
         ),
@@ -100,7 +110,10 @@ fn refused_words_and_long_file(rt: HostRuntime) -> Result<(), Fail> {
         "check a.op c1 --format op --style Plain",
         "check --help",
         "--help",
-        "resume a.op c1 --format op --cert o",
+        "resume a.op --format op --cert o",
+        "resume a.op c1 --format op",
+        "resume a.op c1 --cert o",
+        "resume a.op c1 --format op --cert o --nodes 0",
         "solve a.op --format op",
         "solve a.op --cert o",
         "solve a.op --cert o --format op --nodes 0",
@@ -133,6 +146,10 @@ fn says_why_lines_are_refused(rt: HostRuntime) -> Result<(), Fail> {
         (
             "check --help",
             "Checks a certificate of an instance and reports its points and boxes\n\nUsage: check [OPTIONS] [INSTANCE] [CERT]\n",
+        ),
+        (
+            "resume --help",
+            "Goes on from a certificate of an instance, checks the new one, puts it and reports its points and boxes\n\nUsage: resume [OPTIONS] [INSTANCE] [CERT]\n",
         ),
         (
             "demo --help",

@@ -2,6 +2,7 @@ use Rattle.std.proofs.Common.{rules, ◌≡◌, ◌∙◌, List, [], ◌∷◌, 
 use Rattle.clap.specs.Words.{Text}
 use Rattle.command_line.specs.Lines.{app_by, simple_app, words_of}
 use Rattle.command_line.proofs.PlainLines.{check_names, check_options, check_app-is, solve_names, solve_options, solve_app-is}
+use Rattle.command_line.proofs.PlainLines.{resume_names, resume_options, resume_app-is}
 use Rattle.command_line.proofs.PlainLines.{generate_names, generate_options, generate_app-is, demo_names, demo_options, demo_app-is, line_is_plain}
 use Rattle.command_line.proofs.line.CommandName.line.Goals as goal
 
@@ -16,6 +17,12 @@ returns-in-Solve-clause-app c =
     let names : words_of c.as_slice-in-Solve.result.now ≡ solve_names = search rules in
     let options : words_of c.as_slice-in-Solve-2.result.now ≡ solve_options = search rules in
     ap₂ (simple_app (codes "solve")) names options ∙ (solve_app-is ∙ ap app_by (sym c.in-Solve.is))
+
+pub returns-in-Resume-clause-app : goal.returns-in-Resume-clause-app
+returns-in-Resume-clause-app c =
+    let names : words_of c.as_slice-in-Resume.result.now ≡ resume_names = search rules in
+    let options : words_of c.as_slice-in-Resume-2.result.now ≡ resume_options = search rules in
+    ap₂ (simple_app (codes "resume")) names options ∙ (resume_app-is ∙ ap app_by (sym c.in-Resume.is))
 
 pub returns-in-Generate-clause-app : goal.returns-in-Generate-clause-app
 returns-in-Generate-clause-app c =
@@ -34,6 +41,9 @@ returns-in-Check-clause-plain c = line_is_plain c.args.self
 
 pub returns-in-Solve-clause-plain : goal.returns-in-Solve-clause-plain
 returns-in-Solve-clause-plain c = line_is_plain c.args.self
+
+pub returns-in-Resume-clause-plain : goal.returns-in-Resume-clause-plain
+returns-in-Resume-clause-plain c = line_is_plain c.args.self
 
 pub returns-in-Generate-clause-plain : goal.returns-in-Generate-clause-plain
 returns-in-Generate-clause-plain c = line_is_plain c.args.self
