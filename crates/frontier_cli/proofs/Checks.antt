@@ -93,14 +93,14 @@ module _ (r : CheckRequest) where
   comes_refused None cause is = tt
   comes_refused (Some f) cause is = instance_refused (file f r.instance) (file f r.certificate) cause is
 
-  comes_on : (files : Option Files) (p : Problem) (read : Result Certificate Cause) → FileReadsAs (IsInstance r.settings) r.instance files (Ok p) →
+  pub comes_on : (files : Option Files) (p : Problem) (read : Result Certificate Cause) → FileReadsAs (IsInstance r.settings) r.instance files (Ok p) →
       FileReadsAs IsReadAs r.certificate files read → IfSome files (λ f. ComesTo f (Check r) (of_certificate r.settings p read))
   comes_on None p read is cert = tt
   comes_on (Some f) p read is cert = both_read p (file f r.instance) (file f r.certificate) read is cert
 
   -- ---- the report
 
-  bytes_found : (found : Option (List ℕ)) (c : Certificate) → IsSomeAnd found (λ b. IsReadAs b (Ok c)) →
+  pub bytes_found : (found : Option (List ℕ)) (c : Certificate) → IsSomeAnd found (λ b. IsReadAs b (Ok c)) →
       (bytes : List ℕ) × (found ≡ Some bytes) × IsReadAs bytes (Ok c)
   bytes_found None c is = absurd is
   bytes_found (Some bytes) c is = (bytes, refl, is)

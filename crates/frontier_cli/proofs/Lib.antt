@@ -7,3 +7,4 @@ pub mod Solutions
 pub mod Works
 pub mod Once
 pub mod Told
+pub mod Resumes

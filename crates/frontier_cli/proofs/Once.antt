@@ -8,7 +8,7 @@ use Rattle.cert_text.specs.Refusal.{HasOneText, IsCertText, IsRefusal}
 use Rattle.orienteering.specs.Instance.{Problem}
 use Rattle.orienteering.specs.Certificate.{Certificate}
 use Rattle.command_line.specs.declared.settings.Settings.{Settings}
-use Rattle.command_line.specs.Requests.{Request, Check, Solve, Generate, Demo}
+use Rattle.command_line.specs.Requests.{Request, Check, Solve, Resume, Generate, Demo}
 use Rattle.frontier_cli.specs.Outcome.{Cause, InstanceTooLong, InstanceRefused, CertUnread, CertRefused}
 use Rattle.frontier_cli.specs.Files.{instance_in, IsReadAs}
 use Rattle.frontier_cli.specs.Expected.{Expectation, of_certificate, CertificateComesTo, CheckReadComesTo, CheckComesTo, SolveComesTo, ComesTo}
@@ -69,6 +69,7 @@ module _ (one : HasOneText) where
 
   pub comes_once : (files : Files) (asked : Request) (d e : Expectation) → ComesTo files asked d → ComesTo files asked e → d ≡ e
   comes_once files (Check r) d e h k = check_once r.settings (file files r.instance) (file files r.certificate) d e h k
+  comes_once files (Resume r) d e h k = check_once r.settings (file files r.instance) (file files r.certificate) d e h k
   comes_once files (Solve r) d e h k = solve_once r.settings (file files r.instance) d e h k
   comes_once files (Generate r) d e h k = h ∙ sym k
   comes_once files (Demo r) d e h k = h ∙ sym k

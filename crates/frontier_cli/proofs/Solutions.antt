@@ -5,7 +5,8 @@ use Rattle.orienteering.specs.Instance.{Problem}
 use Rattle.orienteering.specs.Certificate.{Certificate, Acceptance}
 use Rattle.orienteering.specs.Frontier.{IsWholeFrontier}
 use Rattle.orienteering.specs.declared.Box2.{Box2}
-use Rattle.command_line.specs.Requests.{SolveRequest, DemoRequest}
+use Rattle.sweep_solver.specs.Solved.{IsAccepted}
+use Rattle.command_line.specs.Requests.{SolveRequest, ResumeRequest, DemoRequest}
 use Rattle.frontier_cli.specs.Answers.{Demonstrates, has_some}
 use Rattle.frontier_cli.specs.Files.{demo_instance, demo_nodes, demo_settings}
 use Rattle.command_line.specs.declared.settings.Settings.{Settings}
@@ -13,7 +14,7 @@ use Rattle.frontier_cli.specs.Outcome.{Outcome, WordsRefused, Refused, Printed, 
 use Rattle.frontier_cli.specs.Refusal.{outcome_of, refused}
 use Rattle.frontier_cli.specs.declared.refusal.Refusal.{Refusal}
 use Rattle.frontier_cli.specs.declared.work.Report.{Report}
-use Rattle.frontier_cli.specs.Ran.{Demos, IsFound, IsSolution, IsSummary, IsTold, ReportsAll}
+use Rattle.frontier_cli.specs.Ran.{Demos, IsContinuation, IsContinued, IsFound, IsSolution, IsSummary, IsTold, ReportsAll}
 
 some_box : (boxes : List Box2) → has_some boxes ≡ true → boxes ≡ [] → ⊥
 some_box [] some none = absurd (cc)
@@ -49,6 +50,32 @@ solution r p c a bytes text has_box f t = record {
   };
   solved = f.solved;
   boxes = λ some. f.solved.boxes a f.verdict (some_box a.boxes (sym t.left ∙ some));
+}
+
+pub continuation : (r : ResumeRequest) (p : Problem) (old c : Certificate) (a : Acceptance) (bytes text : List ℕ) (has_box : Bool) →
+    IsAccepted p r.settings.labels old → IsContinued p r.settings.labels r.nodes old c a → IsTold r.settings c a bytes text has_box →
+    IsContinuation r p old bytes text has_box
+continuation r p old c a bytes text has_box is f t = record {
+  accepted = is;
+  certificate = c;
+  is_cert = t.is_cert;
+  bytes_are = t.bytes_are;
+  verdict = record {
+    accepted = a;
+    verdict = f.verdict;
+    printed = t.printed;
+    left = t.left;
+    certified = record {
+      points = a.points;
+      boxes = a.boxes;
+      printed = t.printed;
+      left = t.left;
+      frontier = f.frontier;
+      whole = whole_without p a has_box t.left f.whole;
+    };
+  };
+  resumed = f.resumed;
+  boxes = λ some. f.resumed.boxes a f.verdict (some_box a.boxes (sym t.left ∙ some));
 }
 
 pub demonstration : (r : DemoRequest) (p : Problem) (c : Certificate) (a : Acceptance) (text : List ℕ) (has_box : Bool) →

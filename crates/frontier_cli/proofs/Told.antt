@@ -6,7 +6,7 @@ use Rattle.edge_core.specs.Sink.{SinkState, Gains}
 use Rattle.edge_core.specs.SinkLaws.{front-all}
 use Rattle.orienteering.specs.declared.CheckFail.TheVariants.{OtherInstance, PointRefused, NotRising, NodeRefused, TooManyLabels, Shape, Memory}
 use Rattle.cert_text.specs.Refusal.{HasOneText}
-use Rattle.command_line.specs.Requests.{Request, Check, Solve, Generate, Demo}
+use Rattle.command_line.specs.Requests.{Request, Check, Solve, Resume, Generate, Demo}
 use Rattle.frontier_cli.specs.Outcome.{Cause, InstanceTooLong, InstanceRefused, CertUnread, CertRefused, Outcome, WordsRefused, Refused, Printed, ReadFault, WriteFault, OutOfMemory, status_of, cause_status, report_status}
 use Rattle.frontier_cli.specs.Expected.{Expectation, RefusedBy, Accepted, ComesTo}
 use Rattle.frontier_cli.specs.Answers.{Answers}
@@ -148,6 +148,15 @@ headline_at (Check r) before after text has_box out out' status answers gains is
   boxes = is;
 }
 headline_at (Solve r) before after text has_box out out' status answers gains is = record {
+  problem = answers.problem;
+  instance_is = answers.instance_is;
+  text = text;
+  has_box = has_box;
+  printed = gains;
+  report = answers.certified;
+  boxes = is;
+}
+headline_at (Resume r) before after text has_box out out' status answers gains is = record {
   problem = answers.problem;
   instance_is = answers.instance_is;
   text = text;
@@ -413,6 +422,8 @@ files_stay_told None old new outcome status works ends plain = ap (λ s. s.files
 files_stay_told (Some (Check r)) old new outcome status works ends plain = works.files
 files_stay_told (Some (Solve r)) old new outcome status works ends plain =
     put_perhaps r.out outcome status old.files new.files ends plain works.files
+files_stay_told (Some (Resume r)) old new outcome status works ends plain =
+    put_perhaps r.out outcome status old.files new.files ends plain works.files
 files_stay_told (Some (Generate r)) old new outcome status works ends plain = works.files
 files_stay_told (Some (Demo r)) old new outcome status works ends plain = works.files
 
@@ -421,6 +432,10 @@ pub files_stay_printed : (asked : Option Request) (old new : StoreState) (text :
 files_stay_printed None old new text has_box out out' err err' status works prints = absurd works.0
 files_stay_printed (Some (Check r)) old new text has_box out out' err err' status works prints = works.files
 files_stay_printed (Some (Solve r)) old new text has_box out out' err err' status works prints = record {
+  others = works.files;
+  all = λ none. absurd (none (prints_status text has_box out out' err err' status prints));
+}
+files_stay_printed (Some (Resume r)) old new text has_box out out' err err' status works prints = record {
   others = works.files;
   all = λ none. absurd (none (prints_status text has_box out out' err err' status prints));
 }

@@ -2,7 +2,7 @@
 use Rattle.std.proofs.Common.{◌≡◌, ℕ, Bool, List, Option, Some, None, Err, IfSome, IsSomeAnd, refl, sym, ap, subst}
 use Rattle.edge_core.specs.Store.{Files, StoreState}
 use Rattle.command_line.specs.Requests.{GenerateRequest, DemoRequest}
-use Rattle.command_line.specs.Requests.{Request, Check, Solve, Generate, Demo}
+use Rattle.command_line.specs.Requests.{Request, Check, Solve, Resume, Generate, Demo}
 use Rattle.frontier_cli.specs.Outcome.{Cause, Outcome, WordsRefused, Refused, Printed, ReadFault, WriteFault, OutOfMemory}
 use Rattle.frontier_cli.specs.Answers.{Demonstrates, IsGenerated}
 use Rattle.frontier_cli.proofs.Solves.{leaves_none}
@@ -14,6 +14,7 @@ use Rattle.frontier_cli.specs.Ran.{DeclinesWords, Demos, Does, Generates, Leaves
 leaves_same : (request : Request) (outcome : Outcome) (files : Option Files) → Leaves request outcome files files
 leaves_same (Check r) outcome files = refl
 leaves_same (Solve r) outcome files = leaves_none r.out outcome files
+leaves_same (Resume r) outcome files = leaves_none r.out outcome files
 leaves_same (Generate r) outcome files = refl
 leaves_same (Demo r) outcome files = refl
 

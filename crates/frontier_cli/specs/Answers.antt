@@ -10,9 +10,10 @@ use Rattle.orienteering.specs.declared.Listed.{Listed}
 use Rattle.cert_text.specs.Text.{cert_text, IsCert}
 use Rattle.report_text.specs.Report.{report_text, summary_text}
 use Rattle.instance_gen.specs.Generated.{generated}
-use Rattle.command_line.specs.Requests.{Request, Check, Solve, Generate, Demo}
-use Rattle.sweep_solver.specs.Solved.{IsSolved, UsesUp}
-use Rattle.command_line.specs.Requests.{SolveRequest, GenerateRequest, DemoRequest}
+use Rattle.command_line.specs.Requests.{Request, Check, Solve, Resume, Generate, Demo}
+use Rattle.sweep_solver.specs.Solved.{IsAccepted, IsSolved, UsesUp}
+use Rattle.sweep_solver.specs.Resumed.{IsResumed, LeavesNoBox, budget_after}
+use Rattle.command_line.specs.Requests.{SolveRequest, ResumeRequest, GenerateRequest, DemoRequest}
 use Rattle.command_line.specs.declared.settings.Settings.{Settings}
 use Rattle.frontier_cli.specs.Files.{demo_instance, demo_nodes, demo_settings, instance_in}
 
@@ -60,6 +61,24 @@ pub record Solves (r : SolveRequest) (instance out : Option (List ℕ)) (text : 
   pub boxes : has_box ≡ true → UsesUp r.nodes (length report.certificate.nodes)
   pub certified : IsCertifiedReport r.settings problem text has_box
 
+-- the certificate that was put, for the instance under a name: it goes on from the accepted one under another, and is the same
+-- bytes where that leaves no box; the text reports what it accepts, and a box is left only where the request's nodes are used
+-- up, counted from those that the old one has
+pub record Resumes (r : ResumeRequest) (instance certificate out : Option (List ℕ)) (text : List ℕ) (has_box : Bool) : Type 0 where
+  pub problem : Problem
+  pub instance_is : option_map (instance_in r.settings) instance ≡ Some (Ok problem)
+  pub old : Certificate
+  pub is_cert : IsCert old
+  pub certificate_is : certificate ≡ Some (cert_text old)
+  pub accepted : IsAccepted problem r.settings.labels old
+  pub bytes : List ℕ
+  pub put : out ≡ Some bytes
+  pub report : IsReportOf r.settings problem bytes text has_box
+  pub resumed : IsResumed problem r.settings.labels r.nodes old report.certificate
+  pub same : LeavesNoBox problem r.settings.labels old → out ≡ certificate
+  pub boxes : has_box ≡ true → UsesUp (budget_after (length old.nodes) r.nodes) (length report.certificate.nodes)
+  pub certified : IsCertifiedReport r.settings problem text has_box
+
 -- the generated instance, which has no box
 abbrev pub IsGenerated : GenerateRequest → List ℕ → Bool → Type 0
 IsGenerated r text has_box = (text ≡ generated r.seed r.calls r.format) × (has_box ≡ false)
@@ -88,5 +107,7 @@ pub record Demonstrates (r : DemoRequest) (text : List ℕ) (has_box : Bool) : T
 abbrev pub Answers : Request → Files → Files → List ℕ → Bool → Type 0
 Answers (Check r) before after text has_box = Reports r.settings (file before r.instance) (file before r.certificate) text has_box
 Answers (Solve r) before after text has_box = Solves r (file before r.instance) (file after r.out) text has_box
+Answers (Resume r) before after text has_box =
+    Resumes r (file before r.instance) (file before r.certificate) (file after r.out) text has_box
 Answers (Generate r) before after text has_box = IsGenerated r text has_box
 Answers (Demo r) before after text has_box = Demonstrates r text has_box

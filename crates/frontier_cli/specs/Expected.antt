@@ -5,7 +5,7 @@ use Rattle.orienteering.specs.Instance.{Problem}
 use Rattle.orienteering.specs.Certificate.{Certificate, Acceptance}
 use Rattle.orienteering.specs.Decide.{decide}
 use Rattle.orienteering.specs.declared.CheckFail.{CheckFail}
-use Rattle.command_line.specs.Requests.{Request, Check, Solve, Generate, Demo}
+use Rattle.command_line.specs.Requests.{Request, Check, Solve, Resume, Generate, Demo}
 use Rattle.command_line.specs.declared.settings.Settings.{Settings}
 use Rattle.frontier_cli.specs.Outcome.{Cause, CertRefused}
 use Rattle.frontier_cli.specs.Files.{demo_instance, instance_in, IsReadAs}
@@ -52,5 +52,6 @@ SolveComesTo s (Some bytes) e = e ≡ of_instance (instance_in s bytes)
 abbrev pub ComesTo : Files → Request → Expectation → Type 0
 ComesTo files (Check r) e = CheckComesTo r.settings (file files r.instance) (file files r.certificate) e
 ComesTo files (Solve r) e = SolveComesTo r.settings (file files r.instance) e
+ComesTo files (Resume r) e = CheckComesTo r.settings (file files r.instance) (file files r.certificate) e
 ComesTo files (Generate r) e = e ≡ Accepted
 ComesTo files (Demo r) e = e ≡ of_instance (demo_instance r)

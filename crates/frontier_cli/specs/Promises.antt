@@ -4,7 +4,7 @@ use Rattle.edge_core.specs.Faults.{Rose}
 use Rattle.edge_core.specs.Store.{Files, StoreState, file, ChangesOnly}
 use Rattle.edge_core.specs.Sink.{SinkState, Gains, GainsFront}
 use Rattle.orienteering.specs.Instance.{Problem}
-use Rattle.command_line.specs.Requests.{Request, Check, Solve, Generate, Demo}
+use Rattle.command_line.specs.Requests.{Request, Check, Solve, Resume, Generate, Demo}
 use Rattle.command_line.specs.declared.settings.Settings.{Settings}
 use Rattle.frontier_cli.specs.Outcome.{Outcome, status_of, cause_status, report_status, line_of}
 use Rattle.frontier_cli.specs.Files.{instance_in}
@@ -84,6 +84,7 @@ pub record IsHeadline (name : List ℕ) (settings : Settings) (before : Files) (
 abbrev pub HeadlineOf : Request → Files → SinkState → SinkState → ℕ → Type 0
 HeadlineOf (Check r) before out out' status = IsHeadline r.instance r.settings before out out' status
 HeadlineOf (Solve r) before out out' status = IsHeadline r.instance r.settings before out out' status
+HeadlineOf (Resume r) before out out' status = IsHeadline r.instance r.settings before out out' status
 HeadlineOf (Generate r) before out out' status = Unit {0}
 HeadlineOf (Demo r) before out out' status = Unit {0}
 
@@ -112,6 +113,7 @@ abbrev pub FilesStay : Option Request → ℕ → Option Files → Option Files 
 FilesStay None status old new = new ≡ old
 FilesStay (Some (Check r)) status old new = new ≡ old
 FilesStay (Some (Solve r)) status old new = OthersStayBy r.out status old new
+FilesStay (Some (Resume r)) status old new = OthersStayBy r.out status old new
 FilesStay (Some (Generate r)) status old new = new ≡ old
 FilesStay (Some (Demo r)) status old new = new ≡ old
 

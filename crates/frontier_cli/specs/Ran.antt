@@ -3,10 +3,11 @@ use Rattle.std.specs.Prelude.{◌≡◌, ◌⊎◌, ◌≤◌, ℕ, Bool, true, 
 use Rattle.edge_core.specs.Faults.{Rose}
 use Rattle.edge_core.specs.Store.{Files, StoreState, file, ChangesOnly, Holds}
 use Rattle.edge_core.specs.Sink.{SinkState, Gains, GainsFront}
-use Rattle.sweep_solver.specs.Solved.{IsSolved, UsesUp}
+use Rattle.sweep_solver.specs.Solved.{IsAccepted, IsSolved, UsesUp}
+use Rattle.sweep_solver.specs.Resumed.{IsResumed, budget_after}
 use Rattle.cert_text.specs.Text.{cert_text, IsCert}
-use Rattle.command_line.specs.Requests.{SolveRequest, GenerateRequest, DemoRequest}
-use Rattle.command_line.specs.Requests.{Request, Check, Solve, Generate, Demo}
+use Rattle.command_line.specs.Requests.{SolveRequest, ResumeRequest, GenerateRequest, DemoRequest}
+use Rattle.command_line.specs.Requests.{Request, Check, Solve, Resume, Generate, Demo}
 use Rattle.orienteering.specs.Certificate.{Certificate, Acceptance}
 use Rattle.orienteering.specs.Decide.{decide}
 use Rattle.orienteering.specs.Frontier.{IsFrontier, IsWholeFrontier}
@@ -78,6 +79,13 @@ pub record IsFound (p : Problem) (labels : ℕ) (nodes : Option ℕ) (seed : ℕ
   pub frontier : IsFrontier p a.points a.boxes
   pub whole : a.boxes ≡ [] → IsWholeFrontier p a.points
 
+-- a certificate that goes on from another, with what it accepts
+pub record IsContinued (p : Problem) (labels : ℕ) (nodes : Option ℕ) (old c : Certificate) (a : Acceptance) : Type 0 where
+  pub resumed : IsResumed p labels nodes old c
+  pub verdict : decide p labels c ≡ Ok a
+  pub frontier : IsFrontier p a.points a.boxes
+  pub whole : a.boxes ≡ [] → IsWholeFrontier p a.points
+
 -- the text of the certificate, and the report of what it accepts
 pub record IsTold (s : Settings) (c : Certificate) (a : Acceptance) (bytes text : List ℕ) (has_box : Bool) : Type 0 where
   pub is_cert : IsCert c
@@ -99,6 +107,16 @@ pub record IsSolution (r : SolveRequest) (p : Problem) (bytes text : List ℕ) (
   pub verdict : PrintsVerdict r.settings p certificate text has_box
   pub solved : IsSolved p r.settings.labels r.nodes r.seed certificate
   pub boxes : has_box ≡ true → UsesUp r.nodes (length certificate.nodes)
+
+-- a certificate that goes on from an accepted one, with its text and its report
+pub record IsContinuation (r : ResumeRequest) (p : Problem) (old : Certificate) (bytes text : List ℕ) (has_box : Bool) : Type 0 where
+  pub accepted : IsAccepted p r.settings.labels old
+  pub certificate : Certificate
+  pub is_cert : IsCert certificate
+  pub bytes_are : bytes ≡ cert_text certificate
+  pub verdict : PrintsVerdict r.settings p certificate text has_box
+  pub resumed : IsResumed p r.settings.labels r.nodes old certificate
+  pub boxes : has_box ≡ true → UsesUp (budget_after (length old.nodes) r.nodes) (length certificate.nodes)
 
 -- why a put ended so: the name holds the bytes, a count rose, or want of memory
 abbrev pub PutCause : List ℕ → List ℕ → StoreState → StoreState → Step (Unit {0}) → Type 0
@@ -134,6 +152,7 @@ refused_by fail = Refused (CertRefused fail)
 abbrev pub Names : Request → List ℕ → Type 0
 Names (Check r) name = (name ≡ r.instance) ⊎ (name ≡ r.certificate)
 Names (Solve r) name = name ≡ r.instance
+Names (Resume r) name = (name ≡ r.instance) ⊎ (name ≡ r.certificate)
 Names (Generate r) name = ⊥
 Names (Demo r) name = ⊥
 
@@ -141,6 +160,7 @@ Names (Demo r) name = ⊥
 abbrev pub PutFailed : Request → StoreState → StoreState → Type 0
 PutFailed (Check r) old new = ⊥
 PutFailed (Solve r) old new = Rose old.put_faults new.put_faults
+PutFailed (Resume r) old new = Rose old.put_faults new.put_faults
 PutFailed (Generate r) old new = ⊥
 PutFailed (Demo r) old new = ⊥
 
@@ -167,6 +187,7 @@ LeavesOthers name OutOfMemory old new = ChangesOnly name old new
 abbrev pub Leaves : Request → Outcome → Option Files → Option Files → Type 0
 Leaves (Check r) outcome old new = new ≡ old
 Leaves (Solve r) outcome old new = LeavesOthers r.out outcome old new
+Leaves (Resume r) outcome old new = LeavesOthers r.out outcome old new
 Leaves (Generate r) outcome old new = new ≡ old
 Leaves (Demo r) outcome old new = new ≡ old
 

@@ -7,6 +7,8 @@
 
 mod lines;
 mod refusal;
+#[cfg(test)]
+mod resume_tests;
 mod run;
 #[cfg(test)]
 mod solve_tests;

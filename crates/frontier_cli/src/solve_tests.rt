@@ -1,6 +1,5 @@
 use crate::run::run;
 use crate::tests::{POINTS, TWO_CALLS, words};
-use cert_text::read_cert;
 use edge_core::{MemSink, MemStore, Store};
 use std::alloc::Global;
 use std::test::Fail;
@@ -36,7 +35,7 @@ fn generated_files(rt: HostRuntime) -> Result<(), Fail> {
 }
 
 /// A store that holds an instance.
-fn store(alloc: Global, instance: &str) -> Result<MemStore, Fail> {
+pub(crate) fn store(alloc: Global, instance: &str) -> Result<MemStore, Fail> {
     let mut store = MemStore::new(alloc);
     store.put("a.op", instance.as_bytes())?;
     Ok(store)
@@ -175,7 +174,7 @@ fn ten_single_call_tours(rt: HostRuntime) -> Result<(), Fail> {
 }
 
 /// Runs these words, and answers the status and what is printed.
-fn printed<R: Threads + Sync>(
+pub(crate) fn printed<R: Threads + Sync>(
     rt: &R,
     alloc: Global,
     store: &mut MemStore,
@@ -186,34 +185,6 @@ fn printed<R: Threads + Sync>(
     let mut err = MemSink::new(alloc);
     let ended = run(rt, alloc, &words, store, &mut out, &mut err);
     Ok((ended, out))
-}
-
-const STOPPED: &[&str] = &[
-    "solve", "a.op", "--cert", "p", "--format", "op", "--scale", "1", "--nodes", "1",
-];
-
-const STOPPED_CHECKED: &[&str] = &["check", "a.op", "p", "--format", "op", "--scale", "1"];
-
-/// With one node the whole box is left, and the certificate that was put has two nodes at most and is one that `check`
-/// takes.
-#[test]
-fn stopped_and_resumed_as_far_as_solve(rt: HostRuntime) -> Result<(), Fail> {
-    let alloc = rt.alloc();
-    let mut store = store(alloc, TWO_CALLS)?;
-    let (ended, solved) = printed(&rt, alloc, &mut store, STOPPED)?;
-    assert_eq!(rt; ended, 3);
-    assert!(rt;
-        solved
-            .written()
-            .ends_with("boxes 1\nbox 0 12 0 10\n".as_bytes())
-    );
-    let bytes = store.get("p", u64::MAX)?;
-    let cert = read_cert(alloc, &bytes).ok().ok_or("a certificate")?;
-    assert!(rt; matches!(cert.nodes().len(), 1 | 2));
-    let (ended, checked) = printed(&rt, alloc, &mut store, STOPPED_CHECKED)?;
-    assert_eq!(rt; ended, 3);
-    assert_eq!(rt; checked.written(), solved.written());
-    Ok(())
 }
 
 /// A put that fails ends with status 6 and prints nothing; a stream that fails leaves the certificate that was put.

@@ -586,11 +586,11 @@ const WORDS: &[(&str, &[&str], u8, &str, &str)] = &[
         "words\n",
     ),
     (
-        "no such command yet",
+        "resume without a format",
         &["resume", "a.op", "c1", "--cert", "o"],
         2,
         "",
-        "unknown command: resume\n",
+        "words\n",
     ),
 ];
 

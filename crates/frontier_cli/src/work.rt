@@ -2,18 +2,19 @@
 
 ghost use Rattle.std.specs.Prelude.{◌≡◌, ◌≤◌, ◌++◌, Some, Ok, take, map, string_bytes, IfOk, IfErr, OnOk};
 ghost use Rattle.command_line.specs.Limits.{AreSettingsWithin, IsBetween};
-ghost use Rattle.command_line.specs.Requests.{check_request, solve_request, request_in, request_of, Check, Solve, IsDemoWithin, IsSolveWithin, IsWithinLimits};
+ghost use Rattle.command_line.specs.Requests.{check_request, solve_request, resume_request, request_in, request_of, Check, Solve, Resume, IsDemoWithin, IsResumeWithin, IsSolveWithin, IsWithinLimits};
+ghost use Rattle.sweep_solver.specs.Solved.{IsAccepted};
 ghost use Rattle.cert_text.specs.Text.{cert_text, IsCert};
 ghost use Rattle.frontier_cli.specs.Files.{demo_settings, instance_in, IsReadAs};
-ghost use Rattle.frontier_cli.specs.Ran.{DeclinesWords, Declines, Demos, Does, Generates, IsFound, IsSummary, IsTold, Judges, LooksAt, Puts, Reads, ReportsAll, Works, refused_by};
+ghost use Rattle.frontier_cli.specs.Ran.{DeclinesWords, Declines, Demos, Does, Generates, IsContinuation, IsContinued, IsFound, IsSummary, IsTold, Judges, LooksAt, Puts, Reads, ReportsAll, Works, refused_by};
 ghost use Rattle.frontier_cli.specs.Outcome.{OutOfMemory};
 ghost use Rattle.frontier_cli.specs.Refusal.{bytes_of, outcome_of, refused, step_of};
 
 use crate::refusal::Refusal;
 use cert_text::{Cert, TextFail, read_cert, write_cert};
 use command_line::{
-    CheckCommand, Command, DemoCommand, GenerateCommand, Settings, SolveCommand, WordsFail,
-    WordsRefusal, read_command,
+    CheckCommand, Command, DemoCommand, GenerateCommand, ResumeCommand, Settings, SolveCommand,
+    WordsFail, WordsRefusal, read_command,
 };
 use edge_core::{GetFail, PutFail, Store};
 use fixed_num::Scale;
@@ -25,7 +26,7 @@ use report_text::{Style, report, summary};
 use site_model::Instance;
 use std::alloc::Global;
 use std::thread::Threads;
-use sweep_solver::{Options, solve};
+use sweep_solver::{Options, resume, solve};
 
 /// The most bytes of an instance file.
 const INSTANCE_LIMIT: u64 = 16_777_216;
@@ -64,6 +65,7 @@ fn serve<'a, R: Threads + Sync, S: Store>(
         Command::Check(command) => check_files(rt, alloc, store, command),
         Command::Generate(command) => generated(alloc, command),
         Command::Solve(command) => solve_file(rt, alloc, store, command),
+        Command::Resume(command) => resume_file(rt, alloc, store, command),
         Command::Demo(command) => demonstrated(rt, alloc, command),
     }
 }
@@ -159,6 +161,93 @@ fn solve_file<'a, R: Threads + Sync, S: Store>(
     let solution = texts_of(alloc, &found, settings)?;
     put(store, command.out, solution.certificate.as_slice())?;
     Ok(solution.report)
+}
+
+/// Whether a certificate is accepted, and else its refusal.
+fn accept<R: Threads + Sync>(
+    rt: &R,
+    alloc: Global,
+    inst: &Instance,
+    cert: &Cert,
+    settings: Settings,
+) -> Result<(), Refusal<'static>>
+    requires { AreSettingsWithin settings }
+    ensures accepted { OnOk result (IsAccepted inst.now settings.labels cert.now) }
+    ensures refused { IfErr result (λ refusal. Judges settings inst.now cert.now (refused refusal)) }
+{
+    match check(rt, alloc, inst, cert, settings.labels, settings.workers) {
+        Ok(_) => Ok(()),
+        Err(fail) => Err(cert_refusal(fail)),
+    }
+}
+
+/// Goes on from an accepted certificate, and checks the new one. That is accepted, so only memory can be wanting.
+fn continue_certificate<R: Threads + Sync>(
+    rt: &R,
+    alloc: Global,
+    inst: &Instance,
+    old: &Cert,
+    options: Options,
+) -> Result<Found, Refusal<'static>>
+    requires workers { IsBetween 1 16 options.workers }
+    requires accepted { IsAccepted inst.now options.labels old.now }
+    ensures continued { IfOk result (λ f. IsContinued inst.now options.labels options.nodes old.now f.cert f.accepted) }
+    ensures memory { IfErr result (λ refusal. refused refusal ≡ OutOfMemory) }
+{
+    let Ok(cert) = resume(rt, alloc, inst, old, &options) else {
+        return Err(Refusal::Memory);
+    };
+    match check(rt, alloc, inst, &cert, options.labels, options.workers) {
+        Ok(accepted) => Ok(Found { cert, accepted }),
+        Err(_) => Err(Refusal::Memory),
+    }
+}
+
+/// Checks a certificate and goes on from it.
+fn resumed<'a, R: Threads + Sync>(
+    rt: &R,
+    alloc: Global,
+    inst: &Instance,
+    old: &Cert,
+    command: ResumeCommand<'a>,
+) -> Result<Solution, Refusal<'static>>
+    requires { IsResumeWithin (resume_request command) }
+    ensures continued { IfOk result (λ s. IsContinuation (resume_request command.entry) inst.now old.now s.certificate.items s.report.text.items s.report.has_box) }
+    ensures refused { IfErr result (λ refusal. Judges command.entry.settings inst.now old.now (refused refusal)) }
+{
+    let ResumeCommand {
+        settings,
+        nodes,
+        seed,
+        ..
+    } = command;
+    accept(rt, alloc, inst, old, settings)?;
+    let options = Options {
+        nodes,
+        labels: settings.labels,
+        workers: settings.workers,
+        seed,
+    };
+    let found = continue_certificate(rt, alloc, inst, old, options)?;
+    texts_of(alloc, &found, settings)
+}
+
+/// Reads an instance and a certificate, goes on from the certificate where it is accepted, puts the new one once it is checked,
+/// and makes its report.
+fn resume_file<'a, R: Threads + Sync, S: Store>(
+    rt: &R,
+    alloc: Global,
+    store: &mut S,
+    command: ResumeCommand<'a>,
+) -> Result<Report, Refusal<'a>>
+    requires { IsResumeWithin (resume_request command) }
+    ensures { Does (Resume (resume_request command.entry)) (S.state store.old) (S.state store.new) (outcome_of result) }
+{
+    let inst = get_instance(alloc, store, command.instance, command.settings)?;
+    let old = get_cert(alloc, store, command.certificate)?;
+    let continued = resumed(rt, alloc, &inst, &old, command)?;
+    put(store, command.out, continued.certificate.as_slice())?;
+    Ok(continued.report)
 }
 
 /// Puts bytes under a name.
