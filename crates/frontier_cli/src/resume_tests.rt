@@ -82,29 +82,6 @@ fn resumed_under_the_same_name(rt: HostRuntime) -> Result<(), Fail> {
     Ok(())
 }
 
-/// A budget counts the nodes that come: step by step, each certificate has some more, and the last leaves no box.
-#[test]
-fn resumed_step_by_step(rt: HostRuntime) -> Result<(), Fail> {
-    let alloc = rt.alloc();
-    let mut store = stopped(&rt, alloc)?;
-    let step = [
-        "resume", "a.op", "p", "--cert", "p", "--format", "op", "--scale", "1", "--nodes", "2",
-    ];
-    let mut ended = 3;
-    let mut steps: u32 = 0;
-    while ended == 3 && steps < 100 {
-        let (status, _) = printed(&rt, alloc, &mut store, &step)?;
-        ended = status;
-        steps = steps.saturating_add(1);
-    }
-    assert_eq!(rt; ended, 0);
-    assert!(rt; steps > 1);
-    let (ended, checked) = printed(&rt, alloc, &mut store, STOPPED_CHECKED)?;
-    assert_eq!(rt; ended, 0);
-    assert!(rt; is_closed(&checked));
-    Ok(())
-}
-
 /// A case: its name, a certificate, and the status and the line with which it is refused.
 const REFUSED: &[(&str, &str, u8, &str)] = &[
     ("no bytes", "", 1, "certificate: byte 0: end\n"),
