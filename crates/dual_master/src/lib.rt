@@ -7,14 +7,21 @@
 //! smaller bound is answered, and the shares that the search wants are cut down to what calls and tours leave room for.
 #![tactic(auto)]
 
+mod columns;
+mod corners;
+mod fixed;
 mod master;
 mod open_tours;
+mod program;
 mod rating;
 mod search;
 mod shares;
 mod table;
 #[cfg(test)]
 mod tests;
+mod trials;
 
+pub use corners::{CornerMaster, TIME_PARTS};
 pub use master::{MasterAnswer, improve};
-pub use shares::Shares;
+pub use shares::{Shares, WHOLE_TOUR};
+pub use trials::SolvedMaster;

@@ -7,7 +7,7 @@ ghost use Rattle.pool_cols.specs.Pool.{IsPoolOf};
 
 use super::*;
 use fixed_num::Scale;
-use orienteering::{Entries, Place, Price, Tour};
+use orienteering::{Box2, Entries, Place, Point, Price, Tour};
 use pool_cols::Pool;
 use price_bound::bound;
 use region_ctx::Context;
@@ -238,5 +238,69 @@ fn prices_halve_the_bound(rt: HostRuntime) -> Result<(), Fail> {
     let inst = ten_calls(rt.alloc(), 1, 1, 10)?;
     assert_eq!(rt; of_ten(rt.alloc(), &inst, true, 0)?.bound, 20);
     assert_eq!(rt; of_ten(rt.alloc(), &inst, true, 100)?.bound, 10);
+    Ok(())
+}
+
+/// The master over the two tours of the triangle and these corners, in its solution.
+fn solved(alloc: Global, corners: &[Point]) -> Result<(CornerMaster, i64), Fail> {
+    let inst = triangle(alloc)?;
+    let ctx = root(alloc, &inst)?;
+    let whole = Box2 {
+        p_lo: 0,
+        p_hi: 7,
+        t_lo: 0,
+        t_hi: 10,
+    };
+    let mut master = CornerMaster::new(alloc, &ctx, whole, corners)?;
+    master.add(0, &[1], Point { profit: 5, time: 6 })?;
+    master.add(1, &[2], Point { profit: 7, time: 8 })?;
+    let value = master.solve(alloc)?;
+    Ok((master, value))
+}
+
+// Six sevenths of the richer tour earn as much as the corner, in 48 sevenths of a unit.
+#[test]
+fn corner_out_of_reach(rt: HostRuntime) -> Result<(), Fail> {
+    let alloc = rt.alloc();
+    let (master, value) = solved(alloc, &[Point { profit: 6, time: 6 }])?;
+    assert_eq!(rt; value, 8_571);
+    let shares = master.shares(alloc)?;
+    assert!(rt; shares.as_slice() == [(1, 857_143)].as_slice());
+    let inst = triangle(alloc)?;
+    let price = master.price(alloc, &root(alloc, &inst)?)?;
+    assert_eq!(rt; price.alpha, 1_142_857);
+    assert_eq!(rt; price.beta, 1_000_000);
+    assert!(rt; price.pi.list().is_empty());
+    assert_eq!(rt; master.level(price.beta), 0);
+    Ok(())
+}
+
+#[test]
+fn corner_within_reach(rt: HostRuntime) -> Result<(), Fail> {
+    let alloc = rt.alloc();
+    let far = Point { profit: 6, time: 6 };
+    let near = Point { profit: 5, time: 7 };
+    let (mut master, value) = solved(alloc, &[far, near])?;
+    assert!(rt; value < 0);
+    master.focus(0, 6);
+    assert_eq!(rt; master.solve(alloc)?, 8_571);
+    Ok(())
+}
+
+#[test]
+fn what_a_solution_leans_on(rt: HostRuntime) -> Result<(), Fail> {
+    let alloc = rt.alloc();
+    let (master, _) = solved(alloc, &[Point { profit: 6, time: 6 }])?;
+    let mut trials = master.solved(alloc)?;
+    for (lost, visited, gain) in [
+        ([false, false], [].as_slice(), 0),
+        ([true, false], [].as_slice(), 0),
+        ([false, true], [].as_slice(), 50_000),
+        ([false, false], [2].as_slice(), 11_429),
+        ([false, false], [1].as_slice(), 50_000),
+    ] {
+        let found = trials.gain(alloc, lost.as_slice(), visited, 50_000)?;
+        assert_eq!(rt; found, gain);
+    }
     Ok(())
 }

@@ -93,3 +93,39 @@ fn no_walk_is_elementary(rt: HostRuntime) -> Result<(), Fail> {
     assert!(rt; relaxed.critical.calls().is_empty());
     Ok(())
 }
+
+/// The best walks of profit alone through three calls.
+fn walks_of_three(
+    alloc: Global,
+    critical: &[u32],
+    above: i128,
+    limit: u64,
+) -> Result<Option<Walks>, Fail> {
+    let inst = three_calls(alloc, 10)?;
+    let ctx = root(alloc, &inst)?;
+    let price = profit(alloc, &inst, &ctx);
+    Ok(best_walks(alloc, &inst, &ctx, &price, critical, above, limit)?)
+}
+
+// With calls 2 and 3 critical, the walk that is worth most visits each call once, and no walk is worth more.
+#[test]
+fn walks_of_a_price(rt: HostRuntime) -> Result<(), Fail> {
+    let alloc = rt.alloc();
+    for (critical, above, bound, told) in [
+        ([].as_slice(), 19, 20, true),
+        ([3].as_slice(), 18, 19, true),
+        ([2, 3].as_slice(), 17, 18, true),
+        ([2, 3].as_slice(), 18, 18, false),
+    ] {
+        let Some(walks) = walks_of_three(alloc, critical, above, 1000)? else {
+            return Err("too many labels".into());
+        };
+        assert_eq!(rt; walks.bound, bound);
+        assert_eq!(rt; !walks.best.is_empty(), told);
+        for walk in walks.best.iter() {
+            assert_eq!(rt; walk.calls().len(), 3);
+        }
+    }
+    assert!(rt; walks_of_three(alloc, &[2, 3], 17, 3)?.is_none());
+    Ok(())
+}

@@ -2,8 +2,8 @@
 //! between them.
 
 use crate::corners::Corner;
-use crate::master::PARTS;
 use crate::pricing::{Search, open_master};
+use dual_master::TIME_PARTS;
 use orienteering::{Node, Point};
 use pool_cols::Pool;
 use std::alloc::{AllocError, Global};
@@ -124,7 +124,7 @@ pub(crate) fn open_points(alloc: Global, found: &[Corner]) -> Result<Vec<Point>,
 
 /// The time in parts.
 fn parts(time: u64) -> i64 {
-    (time.min(1_000_000_000) as i64).saturating_mul(PARTS)
+    (time.min(1_000_000_000) as i64).saturating_mul(TIME_PARTS)
 }
 
 /// How far the box of the corners from one to another is from being closed.

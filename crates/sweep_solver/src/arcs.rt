@@ -1,18 +1,15 @@
 //! What to branch on: the number of tours, or an arc that is chosen by trials over the tours.
 
-use crate::fixed::Fixed;
-use crate::master::{Master, PARTS};
 use crate::pricing::{Search, master_of, open_master};
 use crate::trials::{Trials, rated};
 use branch_pick::{ArcShare, pick};
+use dual_master::{CornerMaster, TIME_PARTS, WHOLE_TOUR};
 use orienteering::{Node, Point, Tour};
 use pool_cols::Pool;
 use std::alloc::{AllocError, Global};
 
-/// A whole tour.
-const WHOLE: i64 = 1_000_000;
-
-const HALF: u32 = 500_000;
+/// Half of a tour.
+const HALF: u32 = WHOLE_TOUR / 2;
 
 /// How many arcs are tried.
 const MOST_TRIED: usize = 16;
@@ -60,10 +57,6 @@ fn put_tour(
     put_share(shares, from, end, parts)
 }
 
-fn parts_of(share: Fixed) -> u32 {
-    share.whole(WHOLE).clamp(0, WHOLE) as u32
-}
-
 /// The parts of a solution, by arcs, and how many parts of tours there are.
 #[derive(Drop)]
 struct Shares {
@@ -71,11 +64,15 @@ struct Shares {
     tours: u64,
 }
 
-fn arc_shares(alloc: Global, pool: &Pool, master: &Master, end: u32) -> Result<Shares, AllocError> {
+fn arc_shares(
+    alloc: Global,
+    pool: &Pool,
+    master: &CornerMaster,
+    end: u32,
+) -> Result<Shares, AllocError> {
     let mut arcs = Vec::new(alloc);
     let mut tours: u64 = 0;
-    for (place, share) in master.shares(alloc)? {
-        let parts = parts_of(share);
+    for (place, parts) in master.shares(alloc)? {
         tours = tours.saturating_add(u64::from(parts));
         if let Some((tour, _)) = pool.get(place) {
             put_tour(&mut arcs, tour, end, parts)?;
@@ -86,8 +83,8 @@ fn arc_shares(alloc: Global, pool: &Pool, master: &Master, end: u32) -> Result<S
 
 /// Whether the parts are neither none nor all.
 fn is_fraction(parts: u64) -> bool {
-    let rest = parts % WHOLE as u64;
-    1 < rest && rest < WHOLE as u64 - 1
+    let rest = parts % u64::from(WHOLE_TOUR);
+    1 < rest && rest < u64::from(WHOLE_TOUR) - 1
 }
 
 /// The shares of undecided arcs that are neither none nor all.
@@ -161,22 +158,18 @@ fn tried(
     search: &Search<'_>,
     pool: &Pool,
     corners: &[Point],
-    master: &Master,
+    master: &CornerMaster,
     value: i64,
     shares: Vec<ArcShare>,
 ) -> Result<Branching, AllocError> {
-    let goal = value.saturating_neg().max(PARTS);
+    let goal = value.saturating_neg().max(TIME_PARTS);
     let places = master.near_places(alloc, goal.saturating_mul(2))?;
-    let mut near = master_of(alloc, search, pool, corners, places.as_slice())?;
-    let value = near.solve(alloc)?;
-    let basis = near.basis(alloc)?;
+    let near = master_of(alloc, search, pool, corners, places.as_slice())?;
     let mut trials = Trials {
         search,
         pool,
         corners,
-        master: near,
-        basis,
-        value,
+        master: near.solved(alloc)?,
         goal,
     };
     let mut left = shares;
@@ -218,7 +211,7 @@ pub(crate) fn choose_branching(
     let value = master.solve(alloc)?;
     let shares = arc_shares(alloc, pool, &master, search.ctx.calls() + 1)?;
     let (fewest, most) = search.ctx.counts();
-    let count = shares.tours / WHOLE as u64;
+    let count = shares.tours / u64::from(WHOLE_TOUR);
     if is_fraction(shares.tours) && u64::from(fewest) <= count && count < u64::from(most) {
         return Ok(Some(Branching::Count(count as u32)));
     }

@@ -2,8 +2,8 @@
 //!
 //! Stands on `growth`, which grows a tree at its open nodes whatever a strategy proposes. Here are the regions of an
 //! instance as that asks for them, over `region_ctx`, with the replay of a cut by `label_engine`; a way to go on with any
-//! region; and a strategy, on which no proof leans: it aims cuts with prices of calls at the corners of a box, by a master over
-//! the tours of `pool_cols`, and branches on arcs by `branch_pick`. `solve` begins with one open node and the starting plans of
+//! region; and a strategy, on which no proof leans: it aims cuts with prices of calls at the corners of a box, by the master of
+//! `dual_master` over the tours of `pool_cols` and the walks of `relax_states`, and branches on arcs by `branch_pick`. `solve` begins with one open node and the starting plans of
 //! `insert_heur`. Its contract says that the verdict of the checker on the answer is a yes; that no node is open without a
 //! budget, and with one only where it is spent, with at most one node more; that a box is left only where the budget is
 //! spent; and that each starting plan is weakly dominated by a listed point.
@@ -12,18 +12,12 @@
 mod aim;
 mod aims;
 mod arcs;
-mod columns;
 mod corners;
-mod fixed;
-mod fronts;
 mod ladder;
 mod leaf;
 mod learned;
-mod legs;
-mod master;
 mod options;
 mod pricing;
-mod program;
 mod regions;
 mod replay;
 mod resort;
@@ -33,7 +27,6 @@ mod strategy;
 #[cfg(test)]
 mod tests;
 mod trials;
-mod walks;
 mod world;
 
 pub use options::{Options, solve};

@@ -6,10 +6,9 @@ ghost use Rattle.sweep_solver.specs.Rules.{rules_of, IsProperIn};
 
 use crate::aim::{greatest_closed_time, is_closed_by};
 use crate::learned::{Learned, is_open_tour, learn, open_places};
-use crate::master::Master;
 use crate::regions::Regions;
 use crate::replay::replay_cut;
-use crate::walks::{Walks, best_walks};
+use dual_master::CornerMaster;
 use front_archive::Archive;
 use growth::Proposal;
 use orienteering::{Box2, CutOnPath, Point, Price, Tour};
@@ -17,6 +16,7 @@ use pool_cols::Pool;
 use price_bound::check_price;
 use proof_check::is_critical_set;
 use region_ctx::Context;
+use relax_states::{Walks, best_walks};
 use std::alloc::{AllocError, Global};
 
 /// How many replays a cut may take.
@@ -103,8 +103,8 @@ pub(crate) fn master_of(
     pool: &Pool,
     corners: &[Point],
     places: &[u64],
-) -> Result<Master, AllocError> {
-    let mut master = Master::new(alloc, search.ctx, search.root, corners)?;
+) -> Result<CornerMaster, AllocError> {
+    let mut master = CornerMaster::new(alloc, search.ctx, search.root, corners)?;
     for place in places {
         if let Some((tour, point)) = pool.get(*place) {
             master.add(*place, tour.calls(), point)?;
@@ -119,7 +119,7 @@ pub(crate) fn open_master(
     search: &Search<'_>,
     pool: &Pool,
     corners: &[Point],
-) -> Result<Master, AllocError> {
+) -> Result<CornerMaster, AllocError> {
     let places = open_places(alloc, pool, search.ctx)?;
     master_of(alloc, search, pool, corners, places.as_slice())
 }
@@ -130,7 +130,7 @@ fn put_tour(
     search: &Search<'_>,
     pool: &mut Pool,
     learned: &mut Learned,
-    master: &mut Master,
+    master: &mut CornerMaster,
     tour: Tour,
 ) -> Result<bool, AllocError> {
     let place = pool.len();
@@ -186,18 +186,29 @@ fn replayed_cut(
     }
 }
 
-/// The walks of a price that are worth more than the master's tours.
+/// What walks are worth more than to be looked at: the worth of the master's tours. Where a region asks for no tour, all are: tours
+/// that are worth less don't help there, but in regions below, and save nodes.
+fn least_worth(search: &Search<'_>, master: &CornerMaster, price: &Price) -> i128 {
+    let (fewest, _) = search.ctx.counts();
+    if fewest == 0 {
+        return i128::MIN;
+    }
+    let slack = i128::from(price.beta / 100 + 1);
+    master.level(price.beta).saturating_add(slack)
+}
+
+/// The walks of a price that are worth looking at.
 fn better_walks(
     alloc: Global,
     search: &Search<'_>,
-    regions: &Regions<'_>,
-    master: &Master,
+    labels: u64,
+    master: &CornerMaster,
     price: &Price,
     critical: &[u32],
 ) -> Result<Option<Walks>, AllocError> {
-    let slack = i128::from(price.beta / 100 + 1);
-    let above = master.level(price.beta).saturating_add(slack);
-    best_walks(alloc, regions, search.ctx, price, critical, above)
+    let above = least_worth(search, master, price);
+    let inst = search.regions.inst;
+    best_walks(alloc, inst, search.ctx, price, critical, above, labels)
 }
 
 /// Learns the first of the walks that is a new tour, with its mirror. Answers whether there is one.
@@ -206,7 +217,7 @@ fn learn_first(
     search: &Search<'_>,
     pool: &mut Pool,
     learned: &mut Learned,
-    master: &mut Master,
+    master: &mut CornerMaster,
     walks: &[Tour],
 ) -> Result<bool, AllocError> {
     for walk in walks {
@@ -245,7 +256,7 @@ fn widen(
     search: &Search<'_>,
     pool: &mut Pool,
     learned: &mut Learned,
-    master: &mut Master,
+    master: &mut CornerMaster,
     critical: &mut Vec<u32>,
     walks: &[Tour],
 ) -> Result<bool, AllocError> {
@@ -302,7 +313,7 @@ fn closing_price(
         let Some(walks) = better_walks(
             alloc,
             search,
-            search.regions,
+            search.regions.labels,
             &master,
             &price,
             critical.as_slice(),
@@ -371,7 +382,7 @@ impl Reaching {
 fn farthest(
     alloc: Global,
     search: &Search<'_>,
-    few: &Regions<'_>,
+    labels: u64,
     pool: &mut Pool,
     learned: &mut Learned,
     area: Box2,
@@ -390,7 +401,7 @@ fn farthest(
     for _ in 0..MOST_LIFTS {
         master.solve(alloc)?;
         let price = master.price(alloc, search.ctx)?;
-        let Some(walks) = better_walks(alloc, search, few, &master, &price, critical.as_slice())?
+        let Some(walks) = better_walks(alloc, search, labels, &master, &price, critical.as_slice())?
         else {
             break;
         };
@@ -423,11 +434,8 @@ pub(crate) fn price_to_lift(
     requires { IsProperIn search.now.regions.now search.now.ctx.now }
     ensures { IfOk result (λ found. IfSome found (IsReplayed (rules_of search.now.regions.now) search.now.ctx.now)) }
 {
-    let few = Regions {
-        inst: search.regions.inst,
-        labels: search.regions.labels.min(MOST_LIFT_LABELS),
-    };
-    match farthest(alloc, search, &few, pool, learned, area)? {
+    let labels = search.regions.labels.min(MOST_LIFT_LABELS);
+    match farthest(alloc, search, labels, pool, learned, area)? {
         Some(found) => replayed_cut(alloc, search, found, &[]),
         None => Ok(None),
     }

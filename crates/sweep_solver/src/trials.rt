@@ -1,10 +1,9 @@
 //! Trials of branchings over the tours near a master's solution.
 
 use crate::arcs::Edge;
-use crate::master::Master;
 use crate::pricing::Search;
-use crate::program::Basis;
 use crate::resort::stuck_reason;
+use dual_master::SolvedMaster;
 use orienteering::{Point, Tour};
 use pool_cols::Pool;
 use region_ctx::Context;
@@ -19,10 +18,8 @@ pub(crate) struct Trials<'a> {
     pub search: &'a Search<'a>,
     pub pool: &'a Pool,
     pub corners: &'a [Point],
-    pub master: Master,
-    pub basis: Basis,
-    pub value: i64,
-    /// How much the value may rise by before the part is closed.
+    pub master: SolvedMaster,
+    /// How much the value may rise by before the part is closed, in parts of a unit of time.
     pub goal: i64,
 }
 
@@ -97,15 +94,13 @@ impl Trials<'_> {
         let end = part.calls() + 1;
         let visited = visited_calls(alloc, self.search.ctx, steps)?;
         let mut lost = Vec::new(alloc);
-        for (_, place) in self.master.tours() {
+        for place in self.master.places() {
             lost.push(!self.is_left(*place, end, steps))?;
         }
-        let bans = self
-            .master
-            .bans(alloc, lost.as_slice(), visited.as_slice())?;
+        let goal = self.goal.max(0);
         let rise = self
             .master
-            .gain(alloc, &self.basis, bans.as_slice(), self.value, self.goal)?;
+            .gain(alloc, lost.as_slice(), visited.as_slice(), goal)?;
         Ok(
             rise.saturating_mul(ALL)
                 .checked_div(self.goal)

@@ -7,7 +7,7 @@ use Rattle.relax_states.specs.CriticalSet.{with_call}
 use Rattle.relax_states.specs.Elementary.{states}
 use Rattle.relax_states.specs.Growing.{IsReplayed, IsGrown}
 use Rattle.relax_states.proofs.Sets.{with_call-is_set, with_call-longer}
-use Rattle.relax_states.proofs.Walks.{repeated_is_new, grown_to_tours, grown_full}
+use Rattle.relax_states.proofs.Repeated.{repeated_is_new, grown_to_tours, grown_full}
 use Rattle.relax_states.proofs.growing.grown.Goals as goal
 
 pub returns-in_default : goal.returns-in_default
