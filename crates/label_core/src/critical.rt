@@ -21,7 +21,7 @@ impl Model for Critical {
 }
 
 /// The number of the call that a step comes to where that call is critical, below 320, and None elsewhere.
-#[derive(Drop)]
+#[derive(Clone, Copy)]
 pub struct Mark {
     pub number: Option<u32>,
 }
@@ -33,6 +33,8 @@ impl Model for Mark {
     ghost Value = { Option ℕ };
 
     ghost view = { λ mark. mark.number };
+
+    ghost inverse = { λ number. record { number = number } };
 
     ghost invariant = { λ mark. IsMark mark.number };
 }

@@ -18,7 +18,7 @@ impl Model for Flags {
 }
 
 /// The number of the call that a step comes to where that call is critical, below 64, and None elsewhere.
-#[derive(Drop)]
+#[derive(Clone, Copy)]
 pub struct Flag {
     pub number: Option<u32>,
 }
@@ -30,6 +30,8 @@ impl Model for Flag {
     ghost Value = { Option ℕ };
 
     ghost view = { λ flag. flag.number };
+
+    ghost inverse = { λ number. record { number = number } };
 
     ghost invariant = { λ flag. IsFlag flag.number };
 }
