@@ -10,3 +10,6 @@ use Rattle.edge_core.specs.Sink.{Gains}
 pub gains-call : (bytes : List ℕ) (done count : ℕ) (a b c : Option (List ℕ)) → Gains (take done bytes) a b → Appends b c (take count (take (length bytes - done) (drop done bytes))) → Gains (take (done + count) bytes) a c
 gains-call bytes done count None b c gains appends = tt
 gains-call bytes done count (Some xs) b c gains appends = grind (arith, take_rest, take-add, append_assoc)
+
+-- what the proof of a whole write uses
+pub ruleset whole_write = (gains-call)

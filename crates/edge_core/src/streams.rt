@@ -13,6 +13,7 @@ const BUFFER_LEN: u64 = 4096;
 
 /// Writes all these bytes and says whether the writer took them. An interrupted call is made again. A writer that takes
 /// nothing has failed.
+#[tactic(auto, using(crate::proofs::StreamLemmas::whole_write))]
 pub(crate) fn write_whole<W: Write>(writer: &mut W, bytes: &[u8]) -> bool
     ensures whole { result ≡ true → Gains bytes.now (W.contents writer.old) (W.contents writer.new) }
 

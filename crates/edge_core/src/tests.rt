@@ -1,7 +1,8 @@
+use crate::streams::read_front;
 use crate::{FileStore, GetFail, MemSink, MemStore, OutSink, PutFail, Sink, SinkFail, Store};
 use std::alloc::Global;
 use std::fs;
-use std::io::{self, ErrorKind, Write};
+use std::io::{self, ErrorKind, Read, Write};
 use std::test::Fail;
 
 /// The folder of a test, empty and new.
@@ -39,6 +40,10 @@ fn file_store_reads_and_writes_files(rt: HostRuntime) -> Result<(), Fail> {
     }
     assert!(rt; store.put(name, b"10 1\n".as_slice()) == Ok(()));
     assert!(rt; fs::read(&rt, name)?.as_slice() == b"10 1\n".as_slice());
+    for empty in [name, "edge_core_files/b.op"] {
+        assert!(rt; store.put(empty, b"".as_slice()) == Ok(()));
+        assert!(rt; fs::read(&rt, empty)?.is_empty(), "{empty}");
+    }
     fs::remove_dir_all(&rt, folder)?;
     Ok(())
 }
@@ -124,6 +129,62 @@ fn out_sink_writes_all_or_fails(rt: HostRuntime) -> Result<(), Fail> {
         );
         let taken = &b"words".as_slice()[..room.min(5)];
         assert!(rt; writer.taken.as_slice() == taken, "room {room}");
+    }
+    Ok(())
+}
+
+/// A reader that gives two bytes at a time, before each an interruption. After the last it fails, or is at its end.
+#[derive(Drop)]
+struct HesitantReader<'a> {
+    left: &'a [u8],
+    interrupted: bool,
+    fails: bool,
+}
+
+impl Read for HesitantReader<'_> {
+    fn read(&mut self, buffer: &mut [u8]) -> io::Result<usize> {
+        self.interrupted = !self.interrupted;
+        if self.interrupted {
+            return Err(ErrorKind::Interrupted.into());
+        }
+        if self.left.is_empty() && self.fails {
+            return Err(ErrorKind::Other.into());
+        }
+        let count = buffer.len().min(2).min(self.left.len());
+        buffer[..count].copy_from_slice(&self.left[..count]);
+        self.left = &self.left[count..];
+        Ok(count)
+    }
+}
+
+#[test]
+fn read_front_reads_to_the_limit_or_the_end(rt: HostRuntime) -> Result<(), Fail> {
+    let words = b"words".as_slice();
+    for (limit, fails, expected) in [
+        (0, true, Some(0)),
+        (3, true, Some(3)),
+        (4, false, Some(4)),
+        (5, true, Some(5)),
+        (6, true, None),
+        (6, false, Some(5)),
+        (u64::MAX, false, Some(5)),
+    ] {
+        let mut reader = HesitantReader {
+            left: words,
+            interrupted: false,
+            fails,
+        };
+        let read = read_front(rt.alloc(), &mut reader, limit);
+        match (read, expected) {
+            (Ok(bytes), Some(count)) => {
+                assert!(rt; bytes.as_slice() == &words[..count], "limit {limit}");
+                assert!(rt; reader.left == &words[count..], "limit {limit}");
+            }
+            (read, _) => {
+                let failed = matches!(read, Err(GetFail::Failed));
+                assert!(rt; failed && expected.is_none(), "limit {limit}");
+            }
+        }
     }
     Ok(())
 }
