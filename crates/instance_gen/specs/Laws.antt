@@ -1,9 +1,14 @@
--- The law of generated files.
-use Rattle.std.specs.Prelude.{◌≡◌, ℕ, ◌≤◌, Ok, None}
+-- The laws of generated files.
+use Rattle.std.specs.Prelude.{◌≡◌, ℕ, ◌≤◌, length, Ok, None}
 use Rattle.orienteering.specs.Instance.{Problem}
 use Rattle.instance_files.specs.File.{file_problem}
+use Rattle.instance_files.specs.declared.file.Format.{Format}
 use Rattle.instance_files.specs.declared.file.Format.TheVariants.{Op}
 use Rattle.instance_gen.specs.Generated.{generated}
+
+-- no generated file is longer than 20000 bytes
+abbrev pub FilesAreShort : Type 0
+FilesAreShort = (format : Format) (seed calls : ℕ) → calls ≤ 300 → length (generated seed calls format) ≤ 20000
 
 -- each generated OP file is read at each scale, and is never refused
 abbrev pub OpFilesAreRead : Type 0
