@@ -1,6 +1,6 @@
 pub mod Draws
 pub mod Numerals
-pub mod Cut
 pub mod Fields
 pub mod Texts
-pub mod OpFiles
+pub mod Reading
+pub mod Profiles

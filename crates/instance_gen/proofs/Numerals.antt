@@ -29,7 +29,7 @@ no_digit ds byte digits low k within = apart (get_or ds k 0) byte (digit-at ds k
     apart : (c byte : ℕ) → 48 ≤ c → byte < 48 → nat_eq c byte ≡ false
     apart c byte high low = grind (arith, nat_tests)
 
-not_below : (a b : ℕ) → b ≤ a → nat_lt a b ≡ false
+pub not_below : (a b : ℕ) → b ≤ a → nat_lt a b ≡ false
 not_below a b h = grind (arith, nat_tests)
 
 unequal : (a b : ℕ) → b < a → nat_eq a b ≡ false

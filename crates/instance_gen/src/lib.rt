@@ -2,13 +2,13 @@
 //!
 //! `specs/Generated.antt` defines the text of each format as lines of numbers, over the draws of the seed. `generate`
 //! answers exactly that text, or finds no memory, and `laws_of_generated_files` says that each file has at most 20000 bytes
-//! and that OP files are read without refusal.
+//! and is read without refusal.
 //! The crate stands on `draws`, on `instance_files` for the formats, and on `text_parts`, which puts the words and numbers.
 #![tactic(auto)]
 
 ghost use Rattle.std.specs.Prelude.{◌≡◌, ◌≤◌, IfOk};
 ghost use Rattle.instance_gen.specs.Generated.{generated};
-ghost use Rattle.instance_gen.specs.Laws.{FilesAreShort, OpFilesAreRead};
+ghost use Rattle.instance_gen.specs.Laws.{FilesAreShort, GeneratedFilesAreRead};
 
 mod calls;
 mod files;
@@ -35,9 +35,9 @@ pub fn generate(alloc: Global, seed: u64, calls: u32, format: Format) -> Result<
     Ok(out)
 }
 
-/// A generated file is short, and a reader never refuses a generated OP file, at whatever scale it is read.
+/// A generated file is short, and a reader never refuses it, at whatever scale it is read.
 pub fn laws_of_generated_files()
-    ensures op_read { OpFilesAreRead }
+    ensures read { GeneratedFilesAreRead }
     ensures short { FilesAreShort }
 {}
 

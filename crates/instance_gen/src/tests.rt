@@ -1,4 +1,6 @@
 use super::*;
+use fixed_num::Scale;
+use instance_files::read_instance;
 use std::test::*;
 
 #[test]
@@ -22,6 +24,17 @@ fn generated_files(rt: HostRuntime) -> Result<(), Fail> {
             text.as_slice() == wanted.as_bytes(),
             "{format:?} with {calls} calls"
         );
+    }
+    Ok(())
+}
+
+#[test]
+fn generated_files_are_read(rt: HostRuntime) -> Result<(), Fail> {
+    for (format, calls, closing) in [(Format::Top, 2, 600), (Format::Toptw, 1, 970)] {
+        let text = generate(rt.alloc(), 0, calls, format)?;
+        let instance = read_instance(rt.alloc(), text.as_slice(), format, Scale::Ten, None)?;
+        assert!(rt; instance.calls() == calls, "the calls of {format:?}");
+        assert!(rt; instance.closing(1) == closing, "the window of {format:?}");
     }
     Ok(())
 }
