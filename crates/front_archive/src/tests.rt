@@ -9,27 +9,27 @@ use std::alloc::Global;
 use std::test::Fail;
 use tour_check::plan_value;
 
-fn spot(x: i64, y: i64, score: u32) -> Place {
+fn spot(x: i64, y: i64, score: u32, closing: u64) -> Place {
     Place {
         x,
         y,
         score,
         service: 0,
         opening: 0,
-        closing: 12,
+        closing,
     }
 }
 
 /// Two calls at distances 3 and 4 from the start, which is also the end, and 5 from each other.
-fn triangle(alloc: Global) -> Result<Instance, Fail> {
+fn triangle(alloc: Global, limit: u64, team: u32) -> Result<Instance, Fail> {
     let mut places = Vec::new(alloc);
-    places.push(spot(0, 0, 0))?;
-    places.push(spot(30_000, 0, 5))?;
-    places.push(spot(0, 40_000, 7))?;
-    places.push(spot(0, 0, 0))?;
+    places.push(spot(0, 0, 0, limit))?;
+    places.push(spot(30_000, 0, 5, limit))?;
+    places.push(spot(0, 40_000, 7, limit))?;
+    places.push(spot(0, 0, 0, limit))?;
     let parts = Parts {
         scale: Scale::One,
-        team: 2,
+        team,
         places: Places::from_list(places),
     };
     Ok(Instance::new(alloc, parts)?)
@@ -57,7 +57,7 @@ const fn point(profit: u64, time: u64) -> Point {
 #[test]
 fn archive_of_three_plans(rt: HostRuntime) -> Result<(), Fail> {
     let alloc = rt.alloc();
-    let inst = triangle(alloc)?;
+    let inst = triangle(alloc, 10, 1)?;
     let mut archive = Archive::new(alloc);
     for (tours, added) in [
         ([[1].as_slice()].as_slice(), Added::New),
@@ -86,7 +86,7 @@ fn archive_of_three_plans(rt: HostRuntime) -> Result<(), Fail> {
 #[test]
 fn dominated_plan_given_up(rt: HostRuntime) -> Result<(), Fail> {
     let alloc = rt.alloc();
-    let inst = triangle(alloc)?;
+    let inst = triangle(alloc, 12, 2)?;
     let mut archive = Archive::new(alloc);
     for (tours, reached) in [
         ([[1].as_slice(), [2].as_slice()].as_slice(), point(12, 14)),
