@@ -1,9 +1,10 @@
-ghost use Rattle.std.specs.Prelude.{◌≡◌};
+ghost use Rattle.std.specs.Prelude.{◌≡◌, ◌≤◌};
 
 use crate::{Gate, Job, NoGate, run_jobs};
 use std::alloc::{AllocError, Global};
-use std::sync::atomic::{AtomicBool, Ordering};
+use std::sync::atomic::{AtomicBool, AtomicU64, Ordering};
 use std::test::Fail;
+use std::thread::Threads;
 
 /// How often a flag is read before it counts as not raised.
 const TURNS: u32 = 200_000_000;
@@ -118,6 +119,84 @@ fn answers_by_place(rt: HostRuntime) -> Result<(), Fail> {
             answers.as_slice() == [3, 1, 2].as_slice(),
             "{workers} workers"
         );
+    }
+    Ok(())
+}
+
+/// The numbers with which a gate was entered: their sum, and a bit for each of those below 64.
+#[derive(Drop)]
+struct Entered {
+    sum: AtomicU64,
+    bits: AtomicU64,
+}
+
+/// The bit of a number.
+fn bit(number: u64) -> u64 {
+    if number < 64 { 1 << number } else { 0 }
+}
+
+impl Gate for Entered {
+    fn enter(&self, job: u64) {
+        self.sum.fetch_add(job, Ordering::SeqCst);
+        self.bits.fetch_or(bit(job), Ordering::SeqCst);
+    }
+}
+
+/// Answers whether its gate was entered with its number.
+#[derive(Drop)]
+struct Awaiting<'a> {
+    number: u64,
+    gate: &'a Entered,
+}
+
+impl Job for Awaiting<'_> {
+    type Answer = bool;
+
+    ghost fits = { λ _ _. Unit {0} };
+
+    fn work(&self, _alloc: Global) -> Result<bool, AllocError> {
+        Ok(self.gate.bits.load(Ordering::SeqCst) & bit(self.number) != 0)
+    }
+}
+
+/// What becomes of so many jobs: how many there were whose gate was entered before, and the sum and the bits of the numbers.
+fn seen_and_entered<R: Threads + Sync>(
+    rt: &R,
+    alloc: Global,
+    jobs: u64,
+    workers: u32,
+) -> Result<(usize, u64, u64), Fail>
+    requires { (1 ≤ workers) × (workers ≤ 16) }
+{
+    let gate = Entered {
+        sum: AtomicU64::new(0),
+        bits: AtomicU64::new(0),
+    };
+    let mut list = Vec::new(alloc);
+    for before in 0..jobs {
+        list.push(Awaiting {
+            number: before + 1,
+            gate: &gate,
+        })?;
+    }
+    let answers = run_jobs(rt, alloc, list.as_slice(), workers, &gate)?;
+    let seen = answers.iter().filter(|seen| **seen).count();
+    Ok((seen, gate.sum.load(Ordering::SeqCst), gate.bits.load(Ordering::SeqCst)))
+}
+
+#[test]
+fn gate_entered_once_by_each(rt: HostRuntime) -> Result<(), Fail> {
+    for workers in [1, 2, 3, 16] {
+        for (jobs, expected) in [
+            (1, (1, 1, 0b10)),
+            (2, (2, 3, 0b110)),
+            (3, (3, 6, 0b1110)),
+            (4, (4, 10, 0b1_1110)),
+            (5, (5, 15, 0b11_1110)),
+        ] {
+            let found = seen_and_entered(&rt, rt.alloc(), jobs, workers)?;
+            assert!(rt; found == expected, "{jobs} jobs, {workers} workers");
+        }
     }
     Ok(())
 }
