@@ -19,6 +19,7 @@ use Rattle.growth.specs.declared.waiting.Waiting.{Waiting}
 use Rattle.growth.specs.Growth.{Regrows, Completes, Continues, Await, AreAwaited, HasRoom, IsSpent, IsFromOpen, open_branches}
 use Rattle.growth.proofs.Archives.{improves_same}
 use Rattle.growth.proofs.Reading.{from_read, to_read}
+use Rattle.growth.proofs.Keeping.{KeepsNodes}
 use Rattle.orienteering.proofs.Lists.{AllByRecursion-contains, AllByRecursion-weaker}
 use Rattle.growth.proofs.Shrinking.{shrinks_then}
 use Rattle.growth.proofs.Steps.{keeps_accepted}
@@ -58,11 +59,12 @@ module _ {R : Type 0} (rules : RegionRules R) (points : List Listed) (root : R) 
       let q = AllByRecursion-contains (IsFromOpen rules old) between o.0 all o.1 o.2 in
       (q.0, q.1, q.2, shrinks_then rules q.0.branch.region o.0.branch.region l.branch.region q.3 o.3)
 
-  pub continues : (limit : Option ℕ) (branch : Branch R) (old between : List (Leaf (Branch R) Node)) (grown : List Node) →
-      branch ≡ root_branch root → AllByRecursion (IsFromOpen rules old) between →
-      Completes rules points branch limit between grown → Continues rules points root limit old grown
-  continues limit branch old between grown at within r =
+  pub continues : (limit : Option ℕ) (branch : Branch R) (nodes : List Node) (old between : List (Leaf (Branch R) Node))
+      (grown : List Node) → branch ≡ root_branch root → KeepsNodes nodes grown → AllByRecursion (IsFromOpen rules old) between →
+      Completes rules points branch limit between grown → Continues rules points root limit nodes old grown
+  continues limit branch nodes old between grown at kept within r =
       record {
+        kept = kept;
         leaves = r.leaves;
         accepted = to_checker grown r.leaves
             (sym (ap (λ p. after (node_step rules points) [] (p ∷ []) grown) at) ∙ r.accepted);
@@ -73,11 +75,13 @@ module _ {R : Type 0} (rules : RegionRules R) (points : List Listed) (root : R) 
       }
 
   -- where the budget is spent, the rest stays open
-  pub stays_open : (limit : Option ℕ) (branch : Branch R) (old : List (Leaf (Branch R) Node)) (grown : List Node)
-      (waiting : List (Waiting R)) → branch ≡ root_branch root → Regrows rules points branch limit old grown waiting →
-      IsSpent limit (length grown) → Continues rules points root limit old grown
-  stays_open limit branch old grown waiting at r spent =
+  pub stays_open : (limit : Option ℕ) (branch : Branch R) (nodes : List Node) (old : List (Leaf (Branch R) Node)) (grown : List Node)
+      (waiting : List (Waiting R)) → branch ≡ root_branch root → KeepsNodes nodes grown →
+      Regrows rules points branch limit old grown waiting → IsSpent limit (length grown) →
+      Continues rules points root limit nodes old grown
+  stays_open limit branch nodes old grown waiting at kept r spent =
       record {
+        kept = kept;
         leaves = r.leaves;
         accepted = to_checker grown r.leaves
             (sym (ap (λ p. after (node_step rules points) [] (p ∷ []) grown) at) ∙ r.accepted);
@@ -100,3 +104,7 @@ module _ {R : Type 0} (rules : RegionRules R) (points : List Listed) (root : R) 
 pub if_ok : {X E : Type 0} (r : Result X E) (P Q : X → Type 0) → ((x : X) → P x → Q x) → IfOk r P → IfOk r Q
 if_ok (Ok x) P Q f h = f x h
 if_ok (Err e) P Q f h = tt
+
+pub if_both : {X E : Type 0} (r : Result X E) (P Q S : X → Type 0) → ((x : X) → P x → Q x → S x) → IfOk r P → IfOk r Q → IfOk r S
+if_both (Ok x) P Q S f p q = f x p q
+if_both (Err e) P Q S f p q = tt

@@ -4,6 +4,7 @@ pub mod Size
 pub mod Steps
 pub mod Awaiting
 pub mod Growing
+pub mod Keeping
 pub mod Shrinking
 pub mod Regrowing
 pub mod Placing

@@ -213,7 +213,7 @@ pub record AreAwaited {R : Type 0} (rules : RegionRules R) (Proper : R → Type 
   pub accepted : IsTree (node_step rules points) root nodes leaves
   pub await : Await 0 waiting (open_branches leaves)
 
--- the nodes, with the trees in the places of the open ones
+-- the nodes, with the trees in the places of the open ones; an open node stays where no tree is left
 abbrev pub with_trees : List Node → List (List Node) → List Node
 with_trees [] ts = []
 with_trees (Left ∷ ns) (t ∷ ts) = t ++ with_trees ns ts
@@ -241,10 +241,11 @@ pub record Completes {R : Type 0} (rules : RegionRules R) (points : List Listed)
   pub closed : AllByRecursion IsGrown grown ⊎ IsSpent limit (length grown)
   pub within : AllByRecursion (IsFromOpen rules old) leaves
 
--- The checker reads the grown tree under the better points: nodes are left open only where the budget is spent, and what
--- is left lies in what was left.
+-- The checker reads the grown tree under the better points. It is the old tree with trees in the places of open
+-- nodes. Nodes are left open only where the budget is spent, and what is left lies in what was left.
 pub record Continues {R : Type 0} (rules : RegionRules R) (points : List Listed) (root : R) (limit : Option ℕ)
-    (old : List (Leaf (Branch R) Node)) (grown : List Node) : Type 0 where
+    (nodes : List Node) (old : List (Leaf (Branch R) Node)) (grown : List Node) : Type 0 where
+  pub kept : (trees : List (List Node)) × (grown ≡ with_trees nodes trees)
   pub leaves : List (Leaf (Branch R) Node)
   pub accepted : read_nodes rules points root grown ≡ Ok leaves
   pub few : IsWithin limit (length grown)

@@ -15,8 +15,9 @@ use front_archive::Archive;
 use orienteering::Node;
 use std::alloc::{AllocError, Global};
 
-/// Grows the open nodes of a tree that the checker accepts, and answers the nodes of the grown tree, which the checker
-/// accepts with the better points of the archive.
+/// Grows the open nodes of a tree that the checker accepts, and answers the nodes of the grown tree, which the
+/// checker accepts with the better points of the archive. Every node that was not open stays as it is, in its order;
+/// only trees in the places of open nodes are new.
 ///
 /// `limit` is a number of nodes of the whole tree: the answer has at most one more, and a node is left open only where the
 /// answer has as many. Where there is no limit, none is left open: branches that the strategy puts off are grown once the
@@ -41,7 +42,7 @@ pub fn grow_certificate<W: World, S: Strategy<W>>(
     ensures improved { Improves archive.old archive.new }
     ensures grown { IfOk result (λ grown. (leaves : List (Leaf (Branch W.Region) Node)) →
         read_nodes (W.rules world.now) archive.old root nodes.items ≡ Ok leaves →
-        Continues (W.rules world.now) archive.new root limit leaves grown.items) }
+        Continues (W.rules world.now) archive.new root limit nodes.items leaves grown.items) }
 {
     let mut behind = nodes;
     behind.reverse();

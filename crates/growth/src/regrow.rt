@@ -6,7 +6,7 @@ ghost use Rattle.orienteering.specs.Decision.{node_step, Branch};
 ghost use Rattle.orienteering.specs.declared.Node.{Node};
 ghost use Rattle.orienteering.specs.declared.Node.TheVariants.{Cut};
 ghost use Rattle.growth.specs.Reading.{IsTree};
-ghost use Rattle.growth.specs.Growth.{IsArchive, Improves, IsRefused, IsPlain, IsWithin, Copies, Regrows, IsAccepted};
+ghost use Rattle.growth.specs.Growth.{IsArchive, Improves, IsRefused, IsPlain, IsWithin, Copies, Regrows, IsAccepted, with_trees};
 
 use crate::branch::Branch;
 use crate::grow::{grow_tree, push_children};
@@ -90,6 +90,8 @@ pub(crate) fn grow_open_nodes<W: World, S: Strategy<W>>(
     ensures grown { IfOk result (λ nodes. (leaves : List (Leaf (Branch W.Region) Node)) →
         IsTree (node_step (W.rules world.now) archive.old) root (reverse behind.items) leaves →
         Regrows (W.rules world.now) archive.new root limit leaves nodes.items waiting.new.items) }
+    ensures kept { IfOk result (λ nodes.
+        (trees : List (List Node)) × (nodes.items ≡ with_trees (reverse behind.items) trees)) }
 {
     let mut behind = behind;
     let mut nodes = Vec::new(alloc);

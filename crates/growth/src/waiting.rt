@@ -130,6 +130,7 @@ pub(crate) fn grow_waiting<W: World, S: Strategy<W>>(
     ensures grown { IfOk result (λ whole. (root : Spot W.Region) (leaves : List (Leaf (Spot W.Region) Node)) →
         AreAwaited (W.rules world.now) (W.proper world.now) archive.old root nodes.items leaves waiting.items →
         Completes (W.rules world.now) archive.new root limit leaves whole.items) }
+    ensures kept { IfOk result (λ whole. (trees : List (List Node)) × (whole.items ≡ with_trees nodes.items trees)) }
 {
     let mut waiting = waiting;
     let mut trees = open_trees(alloc, waiting.len())?;

@@ -1,7 +1,8 @@
-use Rattle.std.proofs.Common.{◌≡◌, [], ◌∷◌, ◌++◌, true, length, ap, subst, ◌∙◌, arith, length-append}
+use Rattle.std.proofs.Common.{◌≡◌, [], ◌∷◌, ◌++◌, true, length, reverse, refl, ap, subst, sym, ◌∙◌, arith, length-append}
 use Rattle.orienteering.specs.declared.Node.TheVariants.{Cut}
-use Rattle.growth.specs.Growth.{GrowsTree}
+use Rattle.growth.specs.Growth.{GrowsTree, IsGrown}
 use Rattle.growth.proofs.Archives.{improves_same, improves_then}
+use Rattle.growth.proofs.Keeping.{keeping_begins, keeping_ends, keeping_on}
 use Rattle.growth.proofs.Regrowing.{accepts_next, begins, copied, empty_from, finished, grown_here, grown_node, next_is_proper, no_branch, plain_node, within_before}
 use Rattle.growth.proofs.regrow.grow_open_nodes.Goals as goal
 
@@ -15,6 +16,7 @@ loop-node-init g c =
           c.requires.none tree c.requires.proper c.requires.within;
       archive = c.requires.archive;
       improved = improves_same c.args.archive.now;
+      kept = keeping_begins c.args.behind.items c.new-nodes.result.items c.new-nodes.ensures.items;
     }
 
 pub returns-in_default-pop-clause-grown : goal.returns-in_default-pop-clause-grown
@@ -22,6 +24,14 @@ returns-in_default-pop-clause-grown g c old tree =
     absurd (no_branch (g.W.World.rules c.args.world.now) (g.W.World.proper c.args.world.now) (g.W.World.weight c.args.world.now)
     (g.met.W.World.weighs c.args.world.now) (g.met.W.World.shrinks c.args.world.now) c.args.root c.args.limit old c.loop-node.archive c.loop-node.nodes.items c.loop-node.behind.items c.pop.new.self.items c.loop-node.pending.items c.in-Some.node c.loop-node.waiting.items
     (c.loop-node.invariant.regrowing old tree) c.in-Some.ensures.items
+    (empty_from c.loop-node.pending.items (omega (arith, c.in_default-pop.ensures.cases, c.loop-node.pending.ok))))
+
+pub returns-in_default-pop-clause-kept : goal.returns-in_default-pop-clause-kept
+returns-in_default-pop-clause-kept g c =
+    absurd (no_branch (g.W.World.rules c.args.world.now) (g.W.World.proper c.args.world.now) (g.W.World.weight c.args.world.now)
+    (g.met.W.World.weighs c.args.world.now) (g.met.W.World.shrinks c.args.world.now) c.args.root c.args.limit c.requires.accepted.0
+    c.loop-node.archive c.loop-node.nodes.items c.loop-node.behind.items c.pop.new.self.items c.loop-node.pending.items c.in-Some.node
+    c.loop-node.waiting.items (c.loop-node.invariant.regrowing c.requires.accepted.0 c.requires.accepted.1) c.in-Some.ensures.items
     (empty_from c.loop-node.pending.items (omega (arith, c.in_default-pop.ensures.cases, c.loop-node.pending.ok))))
 
 pub grow_tree-requires-clause-proper : goal.grow_tree-requires-clause-proper
@@ -48,6 +58,9 @@ loop-node-preserved-in-Continue-branch-2 g c =
           c.grow_tree.new.nodes.items c.loop-node.waiting.items c.grow_tree.new.waiting.items) behind_is c.in_ok-grow_tree-in-Left.ensures.grown);
       archive = c.grow_tree.ensures.archive;
       improved = improves_then _ _ _ c.loop-node.invariant.improved c.grow_tree.ensures.improved;
+      kept = keeping_on (reverse c.args.behind.items) c.loop-node.behind.items c.pop.new.self.items c.loop-node.nodes.items
+          c.grow_tree.new.nodes.items c.in_ok-grow_tree-in-Left.ensures.grown.tree c.in-Some.node c.in-Some.ensures.items
+          c.in_ok-grow_tree-in-Left.ensures.grown.written (λ g. absurd (subst (λ n. IsGrown n) c.in-Left.is g)) c.loop-node.invariant.kept;
     }
   where
     behind_is : c.len.result ≡ length c.pop.new.self.items
@@ -79,6 +92,9 @@ loop-node-preserved-in-Continue-branch-3 g c =
           (c.in_ok-copy_cut-in-Cut.ensures);
       archive = c.loop-node.invariant.archive;
       improved = c.loop-node.invariant.improved;
+      kept = keeping_on (reverse c.args.behind.items) c.loop-node.behind.items c.pop.new.self.items c.loop-node.nodes.items
+          c.copy_cut.new.nodes.items (Cut c.in-Cut.price c.in-Cut.critical ∷ []) c.in-Some.node c.in-Some.ensures.items
+          c.in_ok-copy_cut-in-Cut.ensures.written (λ g. sym (ap (λ n. n ∷ []) c.in-Cut.is)) c.loop-node.invariant.kept;
     }
 
 pub copy_plain-requires : goal.copy_plain-requires
@@ -103,6 +119,9 @@ loop-node-preserved g c =
           c.in_ok-copy_plain-in_default-node.ensures;
       archive = c.loop-node.invariant.archive;
       improved = c.loop-node.invariant.improved;
+      kept = keeping_on (reverse c.args.behind.items) c.loop-node.behind.items c.pop.new.self.items c.loop-node.nodes.items
+          c.copy_plain.new.nodes.items (c.in-Some.node ∷ []) c.in-Some.node c.in-Some.ensures.items
+          c.in_ok-copy_plain-in_default-node.ensures.written (λ g. refl) c.loop-node.invariant.kept;
     }
 
 pub returns-clause-grown : goal.returns-clause-grown
@@ -110,3 +129,8 @@ returns-clause-grown g c old tree =
     finished (g.W.World.rules c.args.world.now) (g.W.World.proper c.args.world.now) (g.W.World.weight c.args.world.now)
     (g.met.W.World.weighs c.args.world.now) (g.met.W.World.shrinks c.args.world.now) c.args.root c.args.limit old c.loop-node.archive c.loop-node.nodes.items c.loop-node.behind.items c.loop-node.pending.items c.loop-node.waiting.items (c.loop-node.invariant.regrowing old tree)
     (empty_from c.loop-node.behind.items (omega (arith, c.in_default.ensures.cases, c.loop-node.behind.ok)))
+
+pub returns-clause-kept : goal.returns-clause-kept
+returns-clause-kept g c =
+    keeping_ends (reverse c.args.behind.items) c.loop-node.behind.items c.loop-node.nodes.items
+    (empty_from c.loop-node.behind.items (omega (arith, c.in_default.ensures.cases, c.loop-node.behind.ok))) c.loop-node.invariant.kept

@@ -4,6 +4,7 @@ use Rattle.orienteering.specs.Decision.{node_step, Branch}
 use Rattle.orienteering.specs.declared.Node.{Node}
 use Rattle.growth.specs.Reading.{IsTree}
 use Rattle.growth.specs.Growth.{IsArchive, Improves}
+use Rattle.growth.proofs.Keeping.{IsKeeping}
 use Rattle.growth.proofs.Regrowing.{Regrowing}
 use Rattle.growth.proofs.regrow.grow_open_nodes.Given as goal
 
@@ -15,6 +16,7 @@ invariant-loop-node g l = record {
       l.nodes.items l.behind.items l.pending.items l.waiting.items;
   archive : IsArchive (g.W.World.problem l.world) l.archive;
   improved : Improves l.initial.archive l.archive;
+  kept : IsKeeping (reverse l.initial.behind.items) l.behind.items l.nodes.items;
 }
 
 abbrev pub decreases-loop-node : goal.decreases-loop-node

@@ -7,6 +7,7 @@ use Rattle.orienteering.specs.declared.Node.{Node}
 use Rattle.growth.specs.Growth.{AreAwaited, Completes, GrowsTree, IsRoom, room_after, with_trees}
 use Rattle.growth.proofs.Archives.{improves_same, improves_then}
 use Rattle.growth.proofs.Regrowing.{empty_from}
+use Rattle.growth.proofs.Keeping.{KeepsNodes}
 use Rattle.growth.proofs.Continuing.{if_ok}
 use Rattle.growth.proofs.Completing.{Completing, begins, completes_one, next_is_proper, next_place, whole_is}
 use Rattle.growth.proofs.waiting.grow_waiting.Goals as goal
@@ -91,3 +92,9 @@ returns-clause-grown g c =
     (empty_from c.loop-next.waiting.items (omega (arith, c.in_default.ensures.cases, c.loop-next.waiting.ok)))
     a.proper is)
     c.put_in_places.ensures
+
+pub returns-clause-kept : goal.returns-clause-kept
+returns-clause-kept g c =
+    let trees = map (λ t. t.items) c.loop-next.trees.items in
+    if_ok c.put_in_places.result (λ whole. whole.items ≡ with_trees c.args.nodes.items trees)
+    (λ whole. KeepsNodes c.args.nodes.items whole.items) (λ whole is. (trees, is)) c.put_in_places.ensures
