@@ -23,14 +23,16 @@ use Rattle.growth.specs.Branches.{root_branch}
 use Rattle.growth.specs.Growth.{Continues, Improves, IsArchive, IsWithin}
 use Rattle.growth.proofs.Archives.{improves_same}
 use Rattle.growth.proofs.Continuing.{from_checker, to_checker}
+use Rattle.growth.proofs.Keeping.{no_trees}
 use Rattle.growth.proofs.Reading.{after-kept}
 use Rattle.growth.proofs.Steps.{keeps_accepted}
-use Rattle.sweep_solver.specs.Solved.{CoversPlans, IsAccepted, UsesUp}
+use Rattle.sweep_solver.specs.Solved.{CoversPlans, IsAccepted, UsesUp, start_plans, start_seeds}
 use Rattle.sweep_solver.specs.Trees.{IsTreeWithin}
 use Rattle.sweep_solver.specs.Resumed.{budget_after, IsLimitAfter, IsResumed, LeavesNoBox, LieWithin}
 use Rattle.sweep_solver.proofs.Accepted.{accepted, keeps_budget}
 use Rattle.sweep_solver.proofs.Boxes.{boxes_use_up}
 use Rattle.sweep_solver.proofs.Kept.{boxes_within}
+use Rattle.sweep_solver.proofs.Solving.{starts_covered}
 
 -- what a certificate was read as that was accepted so
 pub record IsRead (p : Problem) (labels : ℕ) (c : Certificate) (a : Acceptance) : Type 0 where
@@ -128,13 +130,15 @@ used_after count total (Some n) (Some k) is used = omega (arith, is, used)
 abbrev pub made_of : Problem → List Listed → List Node → Certificate
 made_of p points nodes = record { customers = calls p; team = p.team; scale = p.scale; points = points; nodes = nodes }
 
-module _ (p : Problem) (labels : ℕ) (budget : Option ℕ) (old : Certificate) where
+module _ (p : Problem) (labels : ℕ) (budget : Option ℕ) (seed : ℕ) (old : Certificate) where
   -- the same certificate goes on from one that leaves no box
-  pub resumed_same : IsAccepted p labels old → LeavesNoBox p labels old → (c : Certificate) → c ≡ old → IsResumed p labels budget old c
-  resumed_same is none c same = subst (IsResumed p labels budget old) (sym same) (record {
+  pub resumed_same : IsAccepted p labels old → LeavesNoBox p labels old → (c : Certificate) → c ≡ old → IsResumed p labels budget seed old c
+  resumed_same is none c same = subst (IsResumed p labels budget seed old) (sym same) (record {
     accepted = is;
     same = λ again. refl;
+    tree = ([], sym (no_trees old.nodes));
     kept = (improves_same old.points).covered;
+    starts = λ some. absurd (some none);
     within = λ a b e f. subst (λ boxes. LieWithin a.boxes boxes) (sym (none b f)) tt;
     few = few_same (length old.nodes) budget;
     boxes = λ a e some. absurd (some (none a e));
@@ -148,7 +152,7 @@ module _ (p : Problem) (labels : ℕ) (budget : Option ℕ) (old : Certificate) 
     -- what the grown nodes are, whatever leaves the old ones were read with
     abbrev Grown : Type 0
     Grown = (leaves : List (Leaf (Branch Region) Node)) → read_certificate p labels old.points old.nodes ≡ Ok leaves →
-        Continues (region_rules p labels) points (root p) limit leaves nodes
+        Continues (region_rules p labels) points (root p) limit old.nodes leaves nodes
 
     made_accepted : IsArchive p points → (leaves : List (Leaf (Branch Region) Node)) → read_certificate p labels points nodes ≡ Ok leaves →
         decide p labels (made_of p points nodes) ≡ Ok (record { points = points; boxes = boxes_left p leaves })
@@ -170,16 +174,18 @@ module _ (p : Problem) (labels : ℕ) (budget : Option ℕ) (old : Certificate) 
 
     -- what is grown from a certificate that leaves a box goes on from it
     pub resumed : IsAccepted p labels old → (LeavesNoBox p labels old → ⊥) → IsLimitAfter (length old.nodes) budget limit →
-        length nodes ≤ 2 ^ 64 → IsArchive p points → Improves old.points points → Grown → (c : Certificate) → c ≡ made_of p points nodes →
-        IsResumed p labels budget old c
-    resumed is some after short archive improves grown c same =
+        length nodes ≤ 2 ^ 64 → IsArchive p points → Improves old.points points → CoversPlans p (start_plans p seed) points → Grown →
+        (c : Certificate) → c ≡ made_of p points nodes → IsResumed p labels budget seed old c
+    resumed is some after short archive improves covers grown c same =
         let before = reads p labels old is.0 is.1 in
         let g = grown before.leaves before.read in
         let keeps = keeps_budget limit nodes g.few g.closed in
-        subst (IsResumed p labels budget old) (sym same) (record {
+        subst (IsResumed p labels budget seed old) (sym same) (record {
           accepted = (record { points = points; boxes = boxes_left p g.leaves }, made_accepted archive g.leaves g.accepted);
           same = λ none. absurd (some none);
+          tree = g.kept;
           kept = improves.covered;
+          starts = λ left. starts_covered p points (start_seeds seed) covers;
           within = within_old archive grown;
           few = few_after (length old.nodes) (length nodes) budget limit after short g.few;
           boxes = λ a e left.

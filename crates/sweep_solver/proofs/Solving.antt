@@ -10,7 +10,8 @@ use Rattle.insert_heur.proofs.Finish.{insertions_finish}
 use Rattle.sweep_solver.specs.Solved.{CoversPlans, IsAccepted, IsSolved, KeepsBudget, start_plan, start_plans, start_seeds}
 use Rattle.sweep_solver.proofs.Boxes.{boxes_use_up}
 
-starts_covered : (p : Problem) (points : List Listed) (seeds : List ℕ) → CoversPlans p (map (start_plan p) seeds) points →
+-- starting plans are plans
+pub starts_covered : (p : Problem) (points : List Listed) (seeds : List ℕ) → CoversPlans p (map (start_plan p) seeds) points →
     AllByRecursion (λ plan. IsCovered (point_of p plan) points) (map (start_plan p) seeds)
 starts_covered p points [] covers = tt
 starts_covered p points (seed ∷ seeds) covers =

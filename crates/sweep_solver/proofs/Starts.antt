@@ -18,6 +18,14 @@ one_more p left rest plan held points split offered improves covered =
     (AllByRecursion-push (λ plan. IsPlan p plan → IsCovered (point_of p plan) points) rest plan covered
     (λ is. covered_again (point_of p plan) held points improves (offered is)))
 
+-- the plan that was offered first and those after it
+pub first_more : (p : Problem) (plans rest : List (List (List ℕ))) (plan : List (List ℕ)) (held points : List Listed) →
+    plans ≡ plan ∷ rest → (IsPlan p plan → IsCovered (point_of p plan) held) → Improves held points →
+    CoversPlans p rest points → CoversPlans p plans points
+first_more p plans rest plan held points split offered improved covered =
+    subst (λ plans. CoversPlans p plans points) (sym split)
+    ((λ is. covered_again (point_of p plan) held points improved (offered is)), covered)
+
 pub none_left : (p : Problem) (left : List (List (List ℕ))) (points : List Listed) → left ≡ [] → CoversPlans p left points
 none_left p left points none = subst (λ plans. CoversPlans p plans points) (sym none) tt
 

@@ -5,12 +5,13 @@ use Rattle.std.specs.declared.option.Option.{Option}
 use Rattle.std.specs.declared.option.Option.TheVariants.{None, Some}
 use Rattle.std.specs.declared.result.Result.TheVariants.{Ok}
 use Rattle.orienteering.specs.Instance.{Problem}
-use Rattle.orienteering.specs.Frontier.{IsCovered}
+use Rattle.orienteering.specs.Frontier.{point_of, IsCovered}
 use Rattle.orienteering.specs.Certificate.{Certificate, Acceptance}
 use Rattle.orienteering.specs.Decide.{decide}
 use Rattle.orienteering.specs.declared.Box2.{Box2}
-use Rattle.growth.specs.Growth.{IsWithin, LiesWithin}
-use Rattle.sweep_solver.specs.Solved.{IsAccepted, UsesUp}
+use Rattle.orienteering.specs.declared.Node.{Node}
+use Rattle.growth.specs.Growth.{IsWithin, LiesWithin, with_trees}
+use Rattle.sweep_solver.specs.Solved.{IsAccepted, UsesUp, start_plans}
 
 -- the verdict on the certificate leaves no box
 abbrev pub LeavesNoBox : Problem → ℕ → Certificate → Type 0
@@ -31,13 +32,17 @@ IsLimitAfter count None limit = limit ≡ None
 IsLimitAfter count (Some more) None = 2 ^ 64 ≤ count + more
 IsLimitAfter count (Some more) (Some limit) = limit ≡ count + more
 
--- The certificate goes on from the old one: it is accepted, and is the same where that leaves no box; each old point is weakly
--- dominated by a listed one, and each box lies in an old one; the budget counts the nodes that the old one didn't have, and a
--- box is left only where it is used up.
-pub record IsResumed (p : Problem) (labels : ℕ) (budget : Option ℕ) (old c : Certificate) : Type 0 where
+-- The certificate goes on from the old one: it is accepted, and is the same where that leaves no box. Its tree is the
+-- old one, with trees in the places of open nodes. Each old point is weakly dominated by a listed one, and so is each
+-- starting plan where the old one leaves a box. Each box lies in an old one. The budget counts the nodes that the old
+-- one didn't have, and a box is left only where it is used up.
+pub record IsResumed (p : Problem) (labels : ℕ) (budget : Option ℕ) (seed : ℕ) (old c : Certificate) : Type 0 where
   pub accepted : IsAccepted p labels c
   pub same : LeavesNoBox p labels old → c ≡ old
+  pub tree : (trees : List (List Node)) × (c.nodes ≡ with_trees old.nodes trees)
   pub kept : AllByRecursion (λ l. IsCovered l.point c.points) old.points
+  pub starts : (LeavesNoBox p labels old → ⊥) →
+      AllByRecursion (λ plan. IsCovered (point_of p plan) c.points) (start_plans p seed)
   pub within : (a b : Acceptance) → decide p labels old ≡ Ok a → decide p labels c ≡ Ok b → LieWithin a.boxes b.boxes
   pub few : IsWithin (budget_after (length old.nodes) budget) (length c.nodes)
   pub boxes : (a : Acceptance) → decide p labels c ≡ Ok a → (a.boxes ≡ [] → ⊥) →

@@ -8,7 +8,7 @@ ghost use Rattle.orienteering.specs.Preorder.{Leaf};
 ghost use Rattle.orienteering.specs.Region.{Region, root};
 ghost use Rattle.orienteering.specs.declared.Node.{Node};
 ghost use Rattle.sweep_solver.specs.Resumed.{IsLimitAfter, IsResumed, LeavesNoBox};
-ghost use Rattle.sweep_solver.specs.Solved.{IsAccepted};
+ghost use Rattle.sweep_solver.specs.Solved.{CoversPlans, IsAccepted, start_plans};
 
 use crate::options::{Options, starting_plans};
 use crate::regions::Regions;
@@ -93,6 +93,7 @@ fn archive_from(
     requires accepted { IsAccepted inst.now labels cert.now }
     ensures archive { IfOk result (IsArchive inst.now) }
     ensures improved { IfOk result (λ archive. Improves cert.now.points archive) }
+    ensures covered { IfOk result (λ archive. CoversPlans inst.now starts.items archive) }
 {
     let plans = plans_of(alloc, cert.points())?;
     let mut archive = archive_of(alloc, inst, plans)?;
@@ -113,10 +114,10 @@ fn regrown(
     requires accepted { IsAccepted regions.now.inst.now regions.now.labels cert.now }
     requires within { IsWithin limit (length cert.now.nodes) }
     ensures archive { IsArchive regions.now.inst.now archive.new }
-    ensures improved { Improves cert.now.points archive.new }
+    ensures improved { Improves archive.old archive.new }
     ensures grown { IfOk result (λ grown. (old : List (Leaf (Branch Region) Node)) →
         read_nodes (region_rules regions.now.inst.now regions.now.labels) cert.now.points (root regions.now.inst.now) cert.now.nodes ≡ Ok old →
-        Continues (region_rules regions.now.inst.now regions.now.labels) archive.new (root regions.now.inst.now) limit old grown.items) }
+        Continues (region_rules regions.now.inst.now regions.now.labels) archive.new (root regions.now.inst.now) limit cert.now.nodes old grown.items) }
 {
     let mut strategy = begun(alloc, regions, archive)?;
     strategy.lifts = limit.is_some();
@@ -129,26 +130,30 @@ fn resume_from(
     alloc: Global,
     inst: &Instance,
     cert: &Cert,
+    options: &Options,
     starts: Vec<Plan>,
-    nodes: Option<u64>,
-    labels: u64,
 ) -> Result<Cert, AllocError>
-    requires accepted { IsAccepted inst.now labels cert.now }
-    requires some { LeavesNoBox inst.now labels cert.now → ⊥ }
-    ensures { IfOk result (IsResumed inst.now labels nodes cert.now) }
+    requires accepted { IsAccepted inst.now options.now.labels cert.now }
+    requires some { LeavesNoBox inst.now options.now.labels cert.now → ⊥ }
+    requires starts { starts.items ≡ start_plans inst.now options.now.seed }
+    ensures { IfOk result (IsResumed inst.now options.now.labels options.now.nodes options.now.seed cert.now) }
 {
+    let labels = options.labels;
     let mut archive = archive_from(alloc, inst, cert, labels, starts)?;
     let regions = Regions { inst, labels };
-    let limit = limit_after(cert.nodes().len() as u64, nodes);
+    let limit = limit_after(cert.nodes().len() as u64, options.nodes);
     let grown = regrown(alloc, &regions, &mut archive, cert, limit)?;
     certificate_of(alloc, inst, &archive, grown)
 }
 
-/// A certificate of the instance that the checker accepts and that goes on from one that it accepts: where that leaves no
-/// box it is the same. Else its tree is the old one, with subtrees in the place of its open nodes, and its points are the best of
-/// the old ones and of those that were found. With `nodes` the search stops once there are so many nodes more, and the
-/// certificate has at most one more than that, and boxes only where it has so many more; without it the search closes every
-/// box, however long that takes. The only error is want of memory.
+/// A certificate of the instance that the checker accepts and that goes on from one that it accepts. Where the old
+/// certificate leaves no box, the answer is the same certificate. Else its tree is the old tree: every node that is
+/// not open stays as it is, in its order, and subtrees take the places of open nodes. Each box of the answer lies in
+/// a box of the old certificate. The points are the best of the old ones, of the four starting plans of the seed, and
+/// of those that the search finds: each old point and each starting plan is weakly dominated by one of them. With
+/// `nodes` the search stops once there are so many nodes more than in the old tree. The answer has at most one more
+/// than that, and a box only where it has at least so many more. Without `nodes` the search closes every box, however
+/// long that takes. The only error is want of memory.
 pub fn resume<R: Threads + Sync>(
     rt: &R,
     alloc: Global,
@@ -158,11 +163,11 @@ pub fn resume<R: Threads + Sync>(
 ) -> Result<Cert, AllocError>
     requires few_workers { (1 ≤ options.now.workers) × (options.now.workers ≤ 16) }
     requires accepted { IsAccepted inst.now options.now.labels cert.now }
-    ensures { IfOk result (IsResumed inst.now options.now.labels options.now.nodes cert.now) }
+    ensures { IfOk result (IsResumed inst.now options.now.labels options.now.nodes options.now.seed cert.now) }
 {
     if leaves_no_box(rt, alloc, inst, cert, options)? {
         return copy_of(alloc, cert);
     }
     let starts = starting_plans(rt, alloc, inst, options)?;
-    resume_from(alloc, inst, cert, starts, options.nodes, options.labels)
+    resume_from(alloc, inst, cert, options, starts)
 }

@@ -1,6 +1,6 @@
 //! A certificate that is grown from one open node and starting plans.
 
-ghost use Rattle.std.specs.Prelude.{◌≡◌, ◌∷◌, [], List, IfOk, Ok};
+ghost use Rattle.std.specs.Prelude.{◌≡◌, ◌∷◌, [], List, IfOk, OnOk, Ok};
 ghost use Rattle.growth.specs.Growth.{Continues, Improves, IsArchive};
 ghost use Rattle.orienteering.specs.Decide.{region_rules};
 ghost use Rattle.orienteering.specs.Decision.{Branch, read_nodes};
@@ -86,6 +86,7 @@ pub(crate) fn offer_all(
     requires archive { IsArchive inst.now archive.old }
     ensures archive { IsArchive inst.now archive.new }
     ensures improved { Improves archive.old archive.new }
+    ensures covered { OnOk result (CoversPlans inst.now plans.items archive.new) }
 {
     for plan in plans {
         offer(alloc, inst, archive, plan)?;
@@ -129,7 +130,7 @@ pub(crate) fn grow(
     ensures closed { IfOk result (λ grown. IsClosedWithin limit grown.items) }
     ensures continued { IfOk result (λ grown. (old : List (Leaf (Branch Region) Node)) →
         read_nodes (region_rules regions.now.inst.now regions.now.labels) archive.old (root regions.now.inst.now) nodes.items ≡ Ok old →
-        Continues (region_rules regions.now.inst.now regions.now.labels) archive.new (root regions.now.inst.now) limit old grown.items) }
+        Continues (region_rules regions.now.inst.now regions.now.labels) archive.new (root regions.now.inst.now) limit nodes.items old grown.items) }
 {
     let root = Context::root(alloc, regions.inst)?;
     grow_certificate(alloc, regions, archive, strategy, root, nodes, limit)
@@ -137,7 +138,7 @@ pub(crate) fn grow(
 
 /// A tree that is grown from one open node. With a budget, boxes are lifted before they wait for arcs.
 #[tactic(auto, using(growth::proofs::Archives::improves_same))]
-fn grown_tree(
+pub(crate) fn grown_tree(
     alloc: Global,
     regions: &Regions<'_>,
     archive: &mut Archive,

@@ -9,6 +9,6 @@ returns-then-branch g c =
     let p = c.args.inst.now in
     let options = c.args.options.now in
     let old = c.args.cert.now in
-    if_ok c.copy_of.result (λ copy. copy ≡ old) (IsResumed p options.labels options.nodes old)
-    (λ copy same. resumed_same p options.labels options.nodes old c.requires.accepted (c.in_ok-leaves_no_box.ensures.0 c.if-branch.true) copy same)
+    if_ok c.copy_of.result (λ copy. copy ≡ old) (IsResumed p options.labels options.nodes options.seed old)
+    (λ copy same. resumed_same p options.labels options.nodes options.seed old c.requires.accepted (c.in_ok-leaves_no_box.ensures.0 c.if-branch.true) copy same)
     c.copy_of.ensures

@@ -35,7 +35,7 @@ returns-clause-tree c =
     let points = c.grow_certificate.new.archive in
     if_ok c.grow_certificate.result
     (λ grown. (leaves : List (Leaf (Branch Region) Node)) → read_nodes rules c.args.archive.now root c.args.nodes.items ≡ Ok leaves →
-    Continues rules points root c.args.limit leaves grown.items)
+    Continues rules points root c.args.limit c.args.nodes.items leaves grown.items)
     (λ grown. IsTreeWithin p c.args.regions.now.labels points c.args.limit grown.items)
     (λ grown continues. let g = continues tree.leaves old in record {
       leaves = g.leaves;
@@ -54,7 +54,7 @@ returns-clause-closed c =
     let points = c.grow_certificate.new.archive in
     if_ok c.grow_certificate.result
     (λ grown. (leaves : List (Leaf (Branch Region) Node)) → read_nodes rules c.args.archive.now root c.args.nodes.items ≡ Ok leaves →
-    Continues rules points root c.args.limit leaves grown.items)
+    Continues rules points root c.args.limit c.args.nodes.items leaves grown.items)
     (λ grown. IsClosedWithin c.args.limit grown.items)
     (λ grown continues. (continues tree.leaves old).closed)
     c.grow_certificate.ensures.grown
@@ -66,4 +66,4 @@ returns-clause-continued c =
     let points = c.grow_certificate.new.archive in
     subst (λ (r : Region). IfOk c.grow_certificate.result (λ grown. (old : List (Leaf (Branch Region) Node)) →
     read_nodes rules c.args.archive.now r c.args.nodes.items ≡ Ok old →
-    Continues rules points r c.args.limit old grown.items)) c.in_ok-root.ensures c.grow_certificate.ensures.grown
+    Continues rules points r c.args.limit c.args.nodes.items old grown.items)) c.in_ok-root.ensures c.grow_certificate.ensures.grown

@@ -4,7 +4,7 @@ use Rattle.sweep_solver.proofs.search.grown_tree.Goals as goal
 
 pub grow-requires-clause-tree : goal.grow-requires-clause-tree
 grow-requires-clause-tree c =
-    open_is_tree c.args.regions.now.inst.now c.args.regions.now.labels c.begun.new.archive c.args.limit c.in_ok-tree.tree.items
+    open_is_tree c.args.regions.now.inst.now c.args.regions.now.labels c.begun.new.archive _ c.in_ok-tree.tree.items
     c.in_ok-tree.ensures
 
 pub returns-clause-improved : goal.returns-clause-improved
