@@ -1,5 +1,5 @@
 pub mod Rules
 pub mod Numbers
-pub mod RefusalLaws
 pub mod PlainLines
-pub mod FirstWords
+pub mod Finds
+pub mod Causes

@@ -7,7 +7,10 @@ use Rattle.clap.specs.declared.builder.action.ArgAction.TheVariants.{Set}
 use Rattle.command_line.specs.declared.line.CommandLine.{CommandLine}
 use Rattle.command_line.specs.declared.line.CommandName.{CommandName}
 use Rattle.command_line.specs.declared.line.CommandName.TheVariants.{Check, Solve, Resume, Generate, Demo}
-use Rattle.command_line.specs.declared.line.Entry.{Entry}
+use Rattle.command_line.specs.Arguments.{id_of, is_name}
+use Rattle.command_line.specs.declared.argument.Argument.{Argument}
+use Rattle.command_line.specs.declared.argument.Argument.TheVariants.{Instance, Certificate, Seed, Calls, Format, Scale}
+use Rattle.command_line.specs.declared.argument.Argument.TheVariants.{Team, Labels, Workers, Style, Out, Nodes, SearchSeed}
 
 -- an argument that is known by its place
 abbrev pub name_rule : Text → Rule
@@ -17,12 +20,15 @@ name_rule name = record (new_rule name) { action = Some Set }
 abbrev pub option_rule : Text → Rule
 option_rule name = record (new_rule name) { long = Some name; action = Some Set }
 
+abbrev pub argument_rule : Argument → Rule
+argument_rule a = if is_name a then name_rule (id_of a) else option_rule (id_of a)
+
 abbrev pub with_rules : App → List Rule → App
 with_rules a rules = record a { top = record a.top { rules = a.top.rules ++ rules } }
 
-abbrev pub simple_app : Text → List Text → List Text → App
-simple_app name names options =
-    with_rules (with_rules (new_app name) (map name_rule names)) (map option_rule options)
+-- the command line of these arguments
+abbrev pub simple_app : Text → List Argument → App
+simple_app name arguments = with_rules (new_app name) (map argument_rule arguments)
 
 -- what clap promises of a command line holds of this one
 abbrev pub IsPlainApp : App → Type 0
@@ -35,27 +41,35 @@ accepted_rows a words = if is_empty (fault_of a words) then Some (matches_of a w
 -- ---- the commands
 
 -- the options of the commands that read an instance
-abbrev pub settings_options : List Text
-settings_options = codes "format" ∷ codes "scale" ∷ codes "team" ∷ codes "labels" ∷ codes "workers" ∷ codes "style" ∷ []
-
-unfoldable pub check_app : App
-check_app = simple_app (codes "check") (codes "INSTANCE" ∷ codes "CERT" ∷ []) settings_options
+abbrev pub settings_options : List Argument
+settings_options = Format ∷ Scale ∷ Team ∷ Labels ∷ Workers ∷ Style ∷ []
 
 -- the options of the commands that search for a certificate
-abbrev pub search_options : List Text
-search_options = settings_options ++ (codes "cert" ∷ codes "nodes" ∷ codes "seed" ∷ [])
+abbrev pub search_options : List Argument
+search_options = settings_options ++ (Out ∷ Nodes ∷ SearchSeed ∷ [])
+
+-- the arguments of each command: its names in their order, then its options
+abbrev pub arguments_of : CommandName → List Argument
+arguments_of Check = Instance ∷ Certificate ∷ settings_options
+arguments_of Solve = Instance ∷ search_options
+arguments_of Resume = Instance ∷ Certificate ∷ search_options
+arguments_of Generate = Seed ∷ Calls ∷ Format ∷ []
+arguments_of Demo = Seed ∷ Calls ∷ Workers ∷ []
+
+unfoldable pub check_app : App
+check_app = simple_app (codes "check") (arguments_of Check)
 
 unfoldable pub solve_app : App
-solve_app = simple_app (codes "solve") (codes "INSTANCE" ∷ []) search_options
+solve_app = simple_app (codes "solve") (arguments_of Solve)
 
 unfoldable pub resume_app : App
-resume_app = simple_app (codes "resume") (codes "INSTANCE" ∷ codes "CERT" ∷ []) search_options
+resume_app = simple_app (codes "resume") (arguments_of Resume)
 
 unfoldable pub generate_app : App
-generate_app = simple_app (codes "generate") (codes "SEED" ∷ codes "CALLS" ∷ []) (codes "format" ∷ [])
+generate_app = simple_app (codes "generate") (arguments_of Generate)
 
 unfoldable pub demo_app : App
-demo_app = simple_app (codes "demo") (codes "SEED" ∷ codes "CALLS" ∷ []) (codes "workers" ∷ [])
+demo_app = simple_app (codes "demo") (arguments_of Demo)
 
 abbrev pub app_by : CommandName → App
 app_by Check = check_app
@@ -73,8 +87,5 @@ command_named text = if bytes_eq text (codes "check") then Some Check
 
 -- ---- the lines of the program
 
-abbrev pub words_of : List Entry → List Text
-words_of entries = map (λ e. e.word.now) entries
-
 abbrev pub line_app : CommandLine → App
-line_app line = simple_app line.word.now (words_of line.names.now) (words_of line.options.now)
+line_app line = simple_app line.word.now line.arguments.now

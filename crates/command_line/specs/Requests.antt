@@ -1,5 +1,5 @@
 -- What a list of words asks for.
-use Rattle.std.specs.Prelude.{ℕ, ◌≤◌, List, [], ◌∷◌, Option, Some, None, IfSome, codes, option_map, option_and_then}
+use Rattle.std.specs.Prelude.{ℕ, ◌≤◌, List, [], ◌∷◌, Option, None, IfSome, codes, option_map, option_and_then}
 use Rattle.clap.specs.Words.{Row, Text, first_of}
 use Rattle.command_line.specs.Lines.{accepted_rows, app_by, command_named}
 use Rattle.command_line.specs.Limits.{AreSettingsWithin, IsBetween}

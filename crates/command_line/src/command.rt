@@ -2,12 +2,14 @@
 
 ghost use Rattle.std.specs.Prelude.{◌≡◌, IfSome, option_map};
 ghost use Rattle.clap.specs.Words.{found_of, rows_of};
-ghost use Rattle.command_line.specs.Requests.{check_request_in, solve_request_in, resume_request_in, generate_request_in, demo_request_in};
+ghost use Rattle.command_line.specs.Requests.{check_request_in, solve_request_in, resume_request_in};
+ghost use Rattle.command_line.specs.Requests.{generate_request_in, demo_request_in};
 ghost use Rattle.command_line.specs.Requests.{request_given, request_of, IsWithinLimits};
 
 use crate::given::{format_given, number_given, number_given_if, number_given_or, settings_given};
 use crate::line::{CommandName, given};
 use crate::settings::Settings;
+use crate::values::{MOST_CALLS, MOST_WORKERS};
 use clap::ArgMatches;
 use instance_files::Format;
 
@@ -19,28 +21,28 @@ pub struct CheckCommand<'a> {
     pub settings: Settings,
 }
 
-/// The instance is solved, and its certificate put under a name.
+/// The instance is solved, and its certificate written under a name.
 #[derive(Clone, Copy, Debug, PartialEq, Eq)]
 pub struct SolveCommand<'a> {
     pub instance: &'a str,
-    /// The name under which the certificate is put.
+    /// The name under which the certificate is written.
     pub out: &'a str,
     pub settings: Settings,
-    /// The number of nodes at which the search stops, at least 1; without it the search goes on to the end.
+    /// The number of nodes at which the search stops, at least 1; without it the search runs to its end.
     pub nodes: Option<u64>,
     /// The seed of the starting plans.
     pub seed: u64,
 }
 
-/// A certificate of the instance is gone on from, and the new one put under a name. The names may be the same.
+/// A stopped search is continued from its certificate, and the new one written under a name. The names may be the same.
 #[derive(Clone, Copy, Debug, PartialEq, Eq)]
 pub struct ResumeCommand<'a> {
     pub instance: &'a str,
     pub certificate: &'a str,
-    /// The name under which the new certificate is put.
+    /// The name under which the new certificate is written.
     pub out: &'a str,
     pub settings: Settings,
-    /// How many nodes more the certificate gets until the search stops, at least 1; without it the search goes on to the end.
+    /// The number of further nodes at which the search stops, at least 1; without it the search runs to its end.
     pub nodes: Option<u64>,
     /// The seed of the starting plans.
     pub seed: u64,
@@ -61,7 +63,7 @@ pub struct DemoCommand {
     pub seed: u64,
     /// The number of calls, at most 300.
     pub calls: u32,
-    /// How many jobs run beside each other, 1 to 16.
+    /// The number of parallel jobs, 1 to 16.
     pub workers: u32,
 }
 
@@ -132,7 +134,7 @@ fn generate_given<'a>(matches: &ArgMatches<'a>) -> Option<Command<'a>>
     ensures within { IfSome result (λ command. IsWithinLimits (request_of command)) }
 {
     let seed = number_given(matches, "SEED", 0, u64::MAX)?;
-    let calls = number_given(matches, "CALLS", 0, 300)? as u32;
+    let calls = number_given(matches, "CALLS", 0, MOST_CALLS)? as u32;
     let format = format_given(matches)?;
     Some(Command::Generate(GenerateCommand {
         seed,
@@ -146,8 +148,8 @@ fn demo_given<'a>(matches: &ArgMatches<'a>) -> Option<Command<'a>>
     ensures within { IfSome result (λ command. IsWithinLimits (request_of command)) }
 {
     let seed = number_given(matches, "SEED", 0, u64::MAX)?;
-    let calls = number_given(matches, "CALLS", 0, 300)? as u32;
-    let workers = number_given_or(matches, "workers", 1, 16, 1)? as u32;
+    let calls = number_given(matches, "CALLS", 0, MOST_CALLS)? as u32;
+    let workers = number_given_or(matches, "workers", 1, MOST_WORKERS, 1)? as u32;
     Some(Command::Demo(DemoCommand {
         seed,
         calls,

@@ -7,7 +7,10 @@ ghost use Rattle.command_line.specs.Limits.{AreSettingsWithin};
 
 use crate::line::given;
 use crate::settings::Settings;
-use crate::values::{format_from_word, number_from_word, scale_from_word, style_from_word};
+use crate::values::{
+    MOST_LABELS, MOST_TOURS, MOST_WORKERS, format_from_word, number_from_word, scale_from_word,
+    style_from_word,
+};
 use clap::ArgMatches;
 use fixed_num::Scale;
 use instance_files::{Format, default_scale};
@@ -84,7 +87,7 @@ fn team_given(matches: &ArgMatches) -> Option<Option<u32>>
     ensures value { result ≡ number_if (codes "team") 1 32 (rows_of (found_of matches.now)) }
     ensures within { IfSome result (λ team. IfSome team (λ n. (1 ≤ n) × (n ≤ 32))) }
 {
-    match number_given_if(matches, "team", 1, 32)? {
+    match number_given_if(matches, "team", 1, MOST_TOURS)? {
         Some(team) => Some(Some(team as u32)),
         None => Some(None),
     }
@@ -98,8 +101,8 @@ pub(crate) fn settings_given(matches: &ArgMatches) -> Option<Settings>
     let format = format_given(matches)?;
     let scale = scale_given(matches, format)?;
     let team = team_given(matches)?;
-    let labels = number_given_or(matches, "labels", 1, 2_000_000, 1_000_000)?;
-    let workers = number_given_or(matches, "workers", 1, 16, 1)? as u32;
+    let labels = number_given_or(matches, "labels", 1, MOST_LABELS, 1_000_000)?;
+    let workers = number_given_or(matches, "workers", 1, MOST_WORKERS, 1)? as u32;
     let style = style_given(matches)?;
     Some(Settings {
         format,

@@ -13,9 +13,9 @@ pub struct Settings {
     pub scale: Scale,
     /// The number of tours in place of the file's, 1 to 32.
     pub team: Option<u32>,
-    /// How many labels a replay keeps at most, 1 to 2,000,000.
+    /// The number of labels that a replay may keep, 1 to 2,000,000.
     pub labels: u64,
-    /// How many jobs run beside each other, 1 to 16.
+    /// The number of parallel jobs, 1 to 16.
     pub workers: u32,
     /// How the report is laid out.
     pub style: Style,

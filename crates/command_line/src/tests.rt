@@ -11,27 +11,26 @@ fn words_of(alloc: Global, line: &str) -> Result<Vec<String>, AllocError> {
     Ok(words)
 }
 
-/// What the line asks for, shown for people, or `refused`.
-fn asked(alloc: Global, line: &str) -> Result<String, AllocError> {
+/// The command that the line asks for, or what the user is told of it.
+fn answer(alloc: Global, line: &str) -> Result<String, AllocError> {
     let words = words_of(alloc, line)?;
     match read_command(alloc, words.as_slice()) {
         Ok(command) => format!(in alloc; "{command:?}"),
-        Err(WordsFail::Refused(_)) => "refused".to_string(alloc),
+        Err(WordsFail::Refused(refusal)) => told(alloc, &refusal),
         Err(WordsFail::Memory) => Err(AllocError),
     }
 }
 
-/// The text for a refused line, empty where there is none.
-fn refusal_text(alloc: Global, line: &str) -> Result<String, AllocError> {
-    let words = words_of(alloc, line)?;
-    let text = match read_command(alloc, words.as_slice()) {
-        Err(WordsFail::Refused(refusal)) => refusal.text(alloc),
-        _ => None,
-    };
-    match text {
-        Some(text) => Ok(text),
-        None => "".to_string(alloc),
+/// The line for the cause, and behind it `clap`'s text where there is one.
+fn told(alloc: Global, refusal: &WordsRefusal<'_>) -> Result<String, AllocError> {
+    let mut told = String::new(alloc);
+    for piece in refusal.pieces() {
+        told.push_str(piece)?;
     }
+    if let Some(text) = refusal.text(alloc) {
+        told.push_str(text.as_str())?;
+    }
+    Ok(told)
 }
 
 #[test]
@@ -85,84 +84,125 @@ fn takes_lines(rt: HostRuntime) -> Result<(), Fail> {
         ),
     ];
     for (line, wanted) in cases {
-        let found = asked(rt.alloc(), line)?;
+        let found = answer(rt.alloc(), line)?;
         assert!(rt; found.as_str() == wanted, "{line}: {found}");
     }
     Ok(())
 }
 
 #[test]
-fn refused_words_and_long_file(rt: HostRuntime) -> Result<(), Fail> {
-    let lines = [
-        "check a.op --format op",
-        "chek a.op c1 --format op",
-        "check a.op c1 --format xyz",
-        "check a.op c1",
-        "check a.op c1 c2 --format op",
-        "check a.op c1 --format op --nodes 1",
-        "check a.op c1 --format op --workers 17",
-        "check a.op c1 --format op --workers 0",
-        "check a.op c1 --format op --team 33",
-        "check a.op c1 --format op --labels 2000001",
-        "check a.op c1 --format op --labels",
-        "check a.op c1 --format op --scale +1",
-        "check a.op c1 --format op --scale 1 --scale 1",
-        "check a.op c1 --format op --style Plain",
-        "check --help",
-        "--help",
-        "resume a.op --format op --cert o",
-        "resume a.op c1 --format op",
-        "resume a.op c1 --cert o",
-        "resume a.op c1 --format op --cert o --nodes 0",
-        "solve a.op --format op",
-        "solve a.op --cert o",
-        "solve a.op --cert o --format op --nodes 0",
-        "solve a.op --cert o --format op --seed 18446744073709551616",
-        "generate 0 301 --format op",
-        "generate -1 1 --format op",
-        "generate 0 1",
-        "demo 0 1 --format op",
-        "demo 0 x",
-        "",
-    ];
-    for line in lines {
-        let found = asked(rt.alloc(), line)?;
-        assert!(rt; found.as_str() == "refused", "{line}: {found}");
-    }
-    let Err(WordsFail::Refused(WordsRefusal::Words)) = read_command(rt.alloc(), &[]) else {
-        panic!(rt; "no words");
-    };
-    Ok(())
-}
-
-#[test]
 fn says_why_lines_are_refused(rt: HostRuntime) -> Result<(), Fail> {
     let cases = [
-        ("chek a.op c1 --format op", "unknown command: chek\n"),
+        ("check a.op --format op", "words: CERT is missing\n"),
         (
-            "check a.op c1 --nodes 1",
-            "error: unexpected argument '--nodes' found\n",
+            "chek a.op c1 --format op",
+            "words: unknown command chek; the commands are check, solve, resume, generate and demo\n",
+        ),
+        (
+            "check a.op c1 --format xyz",
+            "words: --format takes op, top or toptw\n",
+        ),
+        ("check a.op c1", "words: --format is missing\n"),
+        (
+            "check a.op c1 c2 --format op",
+            "words\nerror: unexpected argument 'c2' found\n",
+        ),
+        (
+            "check a.op c1 --format op --nodes 1",
+            "words\nerror: unexpected argument '--nodes' found\n",
+        ),
+        (
+            "check a.op c1 --format op --workers 17",
+            "words: --workers takes a number from 1 to 16\n",
+        ),
+        (
+            "check a.op --scale 7 --workers 0",
+            "words: CERT is missing\n",
+        ),
+        (
+            "check a.op c1 --format op --style Plain --team 33",
+            "words: --team takes a number from 1 to 32\n",
+        ),
+        (
+            "check a.op c1 --format op --labels 2000001",
+            "words: --labels takes a number from 1 to 2000000\n",
+        ),
+        ("check a.op c1 --format op --labels", "words\nerror: "),
+        (
+            "check a.op c1 --format op --scale +1",
+            "words: --scale takes 1, 10, 100 or 1000\n",
+        ),
+        (
+            "check a.op c1 --format op --scale 1 --scale 1",
+            "words\nerror: ",
+        ),
+        (
+            "check a.op c1 --format op --style Plain",
+            "words: --style takes plain or table\n",
         ),
         (
             "check --help",
-            "Checks a certificate of an instance and reports its points and boxes\n\nUsage: check [OPTIONS] [INSTANCE] [CERT]\n",
+            "words\nChecks a certificate of an instance and reports its points and boxes\n\n\
+             Usage: check [OPTIONS] [INSTANCE] [CERT]\n",
+        ),
+        (
+            "--help",
+            "words: unknown command --help; the commands are check, solve, resume, generate and demo\n",
         ),
         (
             "resume --help",
-            "Goes on from a certificate of an instance, checks the new one, puts it and reports its points and boxes\n\nUsage: resume [OPTIONS] [INSTANCE] [CERT]\n",
+            "words\nContinues a stopped search from its certificate, checks and writes the new one, and reports its \
+             points and boxes\n\nUsage: resume [OPTIONS] [INSTANCE] [CERT]\n",
         ),
         (
             "demo --help",
-            "Solves a generated instance, checks the certificate and prints a summary\n\nUsage: demo [OPTIONS] [SEED] [CALLS]\n",
+            "words\nGenerates and solves an instance, checks the certificate and prints a summary\n\n\
+             Usage: demo [OPTIONS] [SEED] [CALLS]\n",
+        ),
+        ("resume a.op c1 --format op", "words: --cert is missing\n"),
+        ("resume --nodes 0", "words: INSTANCE is missing\n"),
+        (
+            "resume a.op c1 --format op --cert o --nodes 0",
+            "words: --nodes takes a number from 1 to 18446744073709551615\n",
+        ),
+        ("solve a.op", "words: --format is missing\n"),
+        (
+            "solve a.op --cert o --format op --seed 18446744073709551616",
+            "words: --seed takes a number from 0 to 18446744073709551615\n",
+        ),
+        (
+            "generate 0 301 --format op",
+            "words: CALLS takes a number from 0 to 300\n",
+        ),
+        ("generate -1 1 --format op", "words\nerror: "),
+        (
+            "generate x 1 --format xyz",
+            "words: SEED takes a number from 0 to 18446744073709551615\n",
+        ),
+        ("generate --format op", "words: SEED is missing\n"),
+        ("generate 0 --format xyz", "words: CALLS is missing\n"),
+        (
+            "demo 0 1 --format op",
+            "words\nerror: unexpected argument '--format' found\n",
+        ),
+        (
+            "",
+            "words: unknown command ; the commands are check, solve, resume, generate and demo\n",
         ),
     ];
     for (line, wanted) in cases {
-        let found = refusal_text(rt.alloc(), line)?;
+        let found = answer(rt.alloc(), line)?;
         assert!(rt; found.as_str().starts_with(wanted), "{line}: {found}");
+        assert!(rt;
+            wanted.starts_with("words\n") || found.len() == wanted.len(),
+            "{line}: {found}"
+        );
     }
-    for line in ["check a.op --format op", "check a.op c1 --format xyz"] {
-        let found = refusal_text(rt.alloc(), line)?;
-        assert!(rt; found.is_empty(), "{line}: {found}");
-    }
+    let Err(WordsFail::Refused(refusal)) = read_command(rt.alloc(), &[]) else {
+        panic!(rt; "no words");
+    };
+    let found = told(rt.alloc(), &refusal)?;
+    let wanted = "words: no command; the commands are check, solve, resume, generate and demo\n";
+    assert!(rt; found.as_str() == wanted, "{found}");
     Ok(())
 }

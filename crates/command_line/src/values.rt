@@ -7,6 +7,18 @@ use fixed_num::Scale;
 use instance_files::Format;
 use report_text::Style;
 
+/// The greatest number of calls of a generated instance.
+pub(crate) const MOST_CALLS: u64 = 300;
+
+/// The greatest number of tours.
+pub(crate) const MOST_TOURS: u64 = 32;
+
+/// The greatest number of labels that a replay may keep.
+pub(crate) const MOST_LABELS: u64 = 2_000_000;
+
+/// The greatest number of parallel jobs.
+pub(crate) const MOST_WORKERS: u64 = 16;
+
 /// The format that is written so.
 pub(crate) fn format_from_word(text: &str) -> Option<Format>
     ensures { result ≡ format_of text.now }

@@ -1,4 +1,4 @@
-use Rattle.std.proofs.Common.{arith, lit<}
+use Rattle.std.proofs.Common.{arith}
 use Rattle.command_line.proofs.Numbers.{number_between-none, number_between-some}
 use Rattle.command_line.proofs.values.number_from_word.Goals as goal
 
