@@ -34,7 +34,7 @@ pub use command::{
     CheckCommand, Command, DemoCommand, GenerateCommand, ResumeCommand, SolveCommand,
 };
 pub use line::CommandName;
-pub use refusal::{WordsFail, WordsRefusal};
+pub use refusal::{WordsFail, WordsLine, WordsRefusal};
 pub use settings::Settings;
 use std::alloc::Global;
 

@@ -1,7 +1,6 @@
 //! Why words are refused, and the line for it.
 
-ghost use Rattle.std.specs.Prelude.{◌≡◌, IfSome, map};
-ghost use Rattle.std.specs.List.{concat};
+ghost use Rattle.std.specs.Prelude.{◌≡◌, ◌++◌, IfSome};
 ghost use Rattle.command_line.specs.Refusals.{cause_of};
 ghost use Rattle.command_line.specs.Told.{Fault, line_of};
 
@@ -42,42 +41,47 @@ impl From<AllocError> for WordsFail<'_> {
     }
 }
 
+/// A line for the user, in pieces that take no memory. It ends with a line feed.
+#[derive(Clone, Copy, Debug)]
+pub struct WordsLine<'a> {
+    pub opening: &'a str,
+    /// The word or the argument that the line is about.
+    pub subject: &'a str,
+    pub ending: &'a str,
+}
+
 impl<'a> WordsRefusal<'a> {
-    /// The line for the user, in pieces that take no memory. Its end is a line feed.
-    pub fn pieces(&self) -> [&'a str; 3]
-        ensures { concat (map (λ piece. piece.now) result) ≡ line_of (cause_of self.now) }
+    /// The line for the user.
+    pub fn line(&self) -> WordsLine<'a>
+        ensures { result.opening.now ++ (result.subject.now ++ result.ending.now) ≡ line_of (cause_of self.now) }
     {
-        let first: &'a str;
-        let second: &'a str;
-        let third: &'a str;
         match self {
-            WordsRefusal::NoCommand => {
-                first = "words: no command";
-                second = COMMANDS;
-                third = "";
-            }
-            WordsRefusal::UnknownCommand(word) => {
-                first = "words: unknown command ";
-                second = *word;
-                third = COMMANDS;
-            }
-            WordsRefusal::Line(_) => {
-                first = "words\n";
-                second = "";
-                third = "";
-            }
-            WordsRefusal::Missing(argument) => {
-                first = "words: ";
-                second = argument.label();
-                third = " is missing\n";
-            }
-            WordsRefusal::Misformed(argument) => {
-                first = "words: ";
-                second = argument.label();
-                third = argument.demand();
-            }
+            WordsRefusal::NoCommand => WordsLine {
+                opening: "words: no command",
+                subject: "",
+                ending: COMMANDS,
+            },
+            WordsRefusal::UnknownCommand(word) => WordsLine {
+                opening: "words: unknown command ",
+                subject: word,
+                ending: COMMANDS,
+            },
+            WordsRefusal::Line(_) => WordsLine {
+                opening: "words\n",
+                subject: "",
+                ending: "",
+            },
+            WordsRefusal::Missing(argument) => WordsLine {
+                opening: "words: ",
+                subject: argument.label(),
+                ending: " is missing\n",
+            },
+            WordsRefusal::Misformed(argument) => WordsLine {
+                opening: "words: ",
+                subject: argument.label(),
+                ending: argument.demand(),
+            },
         }
-        [first, second, third]
     }
 
     /// `clap`'s text for a fault of the command's line, which ends with a line feed. None for every other cause, and

@@ -24,9 +24,10 @@ fn answer(alloc: Global, line: &str) -> Result<String, AllocError> {
 /// The line for the cause, and behind it `clap`'s text where there is one.
 fn told(alloc: Global, refusal: &WordsRefusal<'_>) -> Result<String, AllocError> {
     let mut told = String::new(alloc);
-    for piece in refusal.pieces() {
-        told.push_str(piece)?;
-    }
+    let line = refusal.line();
+    told.push_str(line.opening)?;
+    told.push_str(line.subject)?;
+    told.push_str(line.ending)?;
     if let Some(text) = refusal.text(alloc) {
         told.push_str(text.as_str())?;
     }
