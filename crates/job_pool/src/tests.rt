@@ -181,7 +181,11 @@ fn seen_and_entered<R: Threads + Sync>(
     }
     let answers = run_jobs(rt, alloc, list.as_slice(), workers, &gate)?;
     let seen = answers.iter().filter(|seen| **seen).count();
-    Ok((seen, gate.sum.load(Ordering::SeqCst), gate.bits.load(Ordering::SeqCst)))
+    Ok((
+        seen,
+        gate.sum.load(Ordering::SeqCst),
+        gate.bits.load(Ordering::SeqCst),
+    ))
 }
 
 #[test]

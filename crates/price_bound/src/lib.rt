@@ -10,3 +10,6 @@ mod fit;
 pub use dual::bound;
 pub use fit::check_price;
 pub use orienteering::{Entries, Price, PriceRefusal};
+
+#[cfg(test)]
+mod tests;

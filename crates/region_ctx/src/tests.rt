@@ -1,4 +1,4 @@
-ghost use Rattle.std.specs.Prelude.{◌≡◌, IfOk};
+ghost use Rattle.std.specs.Prelude.{◌≡◌, ◌+◌, ◌≤◌, IfOk};
 ghost use Rattle.orienteering.specs.Instance.{calls};
 
 use crate::{Context, Reason, SplitFail};
@@ -100,13 +100,61 @@ fn splits_of_two_calls(rt: HostRuntime) -> Result<(), Fail> {
     Ok(())
 }
 
+/// What a context answers of the arc between two places: whether it is used, banned, shut, open and undecided.
+fn about_arc(context: &Context, i: u32, j: u32) -> [bool; 5]
+    requires from { i ≤ context.now.calls + 1 }
+    requires to { j ≤ context.now.calls + 1 }
+{
+    [
+        context.is_used(i, j),
+        context.is_banned(i, j),
+        context.is_shut(i, j),
+        context.is_open(i, j),
+        context.is_undecided(i, j),
+    ]
+}
+
+/// Whether two contexts answer the same of each arc and each call.
+fn same_arcs_and_calls(a: &Context, b: &Context) -> bool
+    requires { a.now.calls ≡ b.now.calls }
+{
+    for i in 0..a.calls() + 2 {
+        for j in 0..a.calls() + 2 {
+            if about_arc(a, i, j) != about_arc(b, i, j) {
+                return false;
+            }
+        }
+    }
+    for call in 1..a.calls() + 1 {
+        if a.forced(call) != b.forced(call) {
+            return false;
+        }
+    }
+    true
+}
+
 /// The root has six undecided arcs, and copies equal their sources.
 #[test]
 fn small_surface(rt: HostRuntime) -> Result<(), Fail> {
     let inst = two_calls(rt.alloc())?;
     let root = Context::root(rt.alloc(), &inst)?;
-    assert_eq!(rt; root.undecided(), 6);
-    assert_eq!(rt; root.copy()?.undecided(), 6);
+    let same = root.copy()?;
+    assert_eq!(rt;
+        (root.raw(), same.raw()),
+        (area(0, 12, 0, 10), area(0, 12, 0, 10))
+    );
+    assert_eq!(rt; (root.counts(), same.counts()), ((0, 1), (0, 1)));
+    assert_eq!(rt; (root.calls(), same.calls()), (2, 2));
+    assert_eq!(rt; (root.undecided(), same.undecided()), (6, 6));
+    assert!(rt; same_arcs_and_calls(&root, &same));
+    assert_eq!(rt; same.tight(&inst), root.tight(&inst));
+    for (reason, _) in REASONS {
+        assert_eq!(rt;
+            same.stuck(&inst, *reason),
+            root.stuck(&inst, *reason),
+            "{reason:?}"
+        );
+    }
     let limits = [Limit::Travels(0, 1), Limit::Avoids(1, 2), Limit::HasATour];
     let Ok(part) = region(rt.alloc(), &inst, &limits) else {
         return Err("no split".into());
