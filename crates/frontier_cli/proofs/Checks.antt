@@ -15,8 +15,8 @@ use Rattle.command_line.specs.Requests.{Check}
 use Rattle.frontier_cli.specs.Outcome.{Cause, CertRefused, Outcome, WordsRefused, Refused, Printed, ReadFault, WriteFault, OutOfMemory}
 use Rattle.frontier_cli.specs.Files.{IsReadAs}
 use Rattle.frontier_cli.specs.Expected.{RefusedBy, Accepted, of_verdict, of_certificate, CertificateComesTo, CheckReadComesTo, CheckComesTo, ComesTo}
-use Rattle.frontier_cli.specs.Answers.{Answers, has_some, IsCertifiedReport}
-use Rattle.frontier_cli.proofs.Instances.{IsInstance, instance_found}
+use Rattle.frontier_cli.specs.Answers.{Answers, has_some, IsCertifiedReport, IsSmall}
+use Rattle.frontier_cli.proofs.Instances.{IsInstance, instance_found, reads_instance}
 use Rattle.frontier_cli.specs.Ran.{FileReadsAs, Reads, Does, Judges, PrintsVerdict, ReportsAll, refused_by}
 
 -- ---- the verdict
@@ -38,19 +38,20 @@ certified s p a text has_box frontier whole report = record {
 }
 
 pub judged : (s : Settings) (p : Problem) (c : Certificate) (a : Acceptance) (outcome : Outcome) → decide p s.labels c ≡ Ok a →
-    IsFrontier p a.points a.boxes → (a.boxes ≡ [] → IsWholeFrontier p a.points) → ReportsAll s a outcome → Judges s p c outcome
-judged s p c a (Printed text has_box) verdict frontier whole report = record {
+    IsFrontier p a.points a.boxes → (a.boxes ≡ [] → IsWholeFrontier p a.points) → IsSmall p c → ReportsAll s a outcome → Judges s p c outcome
+judged s p c a (Printed text has_box) verdict frontier whole small report = record {
   accepted = a;
   verdict = verdict;
   printed = report.0;
   left = report.1;
+  small = small;
   certified = certified s p a text has_box frontier whole report;
 }
-judged s p c a OutOfMemory verdict frontier whole report = tt
-judged s p c a (WordsRefused text) verdict frontier whole report = absurd report
-judged s p c a (Refused cause) verdict frontier whole report = absurd report
-judged s p c a (ReadFault name) verdict frontier whole report = absurd report
-judged s p c a WriteFault verdict frontier whole report = absurd report
+judged s p c a OutOfMemory verdict frontier whole small report = tt
+judged s p c a (WordsRefused text) verdict frontier whole small report = absurd report
+judged s p c a (Refused cause) verdict frontier whole small report = absurd report
+judged s p c a (ReadFault name) verdict frontier whole small report = absurd report
+judged s p c a WriteFault verdict frontier whole small report = absurd report
 
 refused_verdict : (s : Settings) (p : Problem) (c : Certificate) (fail : CheckFail) → decide p s.labels c ≡ Err fail →
     of_verdict (decide p s.labels c) ≡ RefusedBy (CertRefused fail)
@@ -123,6 +124,7 @@ module _ (r : CheckRequest) where
           verdict = v.verdict;
           printed = v.printed;
           left = v.left;
+          small = v.small;
         };
         certified = v.certified;
       }
@@ -142,12 +144,12 @@ module _ (r : CheckRequest) where
   pub ended_by_instance : (old new : StoreState) (outcome : Outcome) → Reads (IsInstance r.settings) r.instance old new (Err outcome) →
       Does (Check r) old new outcome
   ended_by_instance old new (WordsRefused text) reads = absurd reads.cause
-  ended_by_instance old new (Refused cause) reads = record { files = reads.files; cause = comes_refused old.files cause reads.cause }
+  ended_by_instance old new (Refused cause) reads = record { files = reads.files; cause = comes_refused old.files cause reads.cause; made = tt }
   ended_by_instance old new (Printed text has_box) reads = absurd reads.cause
   ended_by_instance old new (ReadFault name) reads =
-      record { files = reads.files; cause = (inl reads.cause.0, subst (λ n. new.failed ≡ n) (sym reads.cause.0) reads.cause.1, reads.cause.2) }
+      record { files = reads.files; cause = (inl reads.cause.0, subst (λ n. new.failed ≡ n) (sym reads.cause.0) reads.cause.1, reads.cause.2); made = tt }
   ended_by_instance old new WriteFault reads = absurd reads.cause
-  ended_by_instance old new OutOfMemory reads = record { files = reads.files; cause = tt }
+  ended_by_instance old new OutOfMemory reads = record { files = reads.files; cause = tt; made = tt }
 
   module _ (old middle new : StoreState) (p : Problem) (first : Reads (IsInstance r.settings) r.instance old middle (Ok p)) where
     then_refused : (cause : Cause) → FileReadsAs IsReadAs r.certificate middle.files (Err cause) →
@@ -158,20 +160,25 @@ module _ (r : CheckRequest) where
 
     pub ended_by_cert : (outcome : Outcome) → Reads IsReadAs r.certificate middle new (Err outcome) → Does (Check r) old new outcome
     ended_by_cert (WordsRefused text) reads = absurd reads.cause
-    ended_by_cert (Refused cause) reads = record { files = reads.files ∙ first.files; cause = then_refused cause reads.cause }
+    ended_by_cert (Refused cause) reads = record { files = reads.files ∙ first.files; cause = then_refused cause reads.cause; made = tt }
     ended_by_cert (Printed text has_box) reads = absurd reads.cause
     ended_by_cert (ReadFault name) reads =
         let later : old.get_faults ≤ middle.get_faults = first.later in
         let rose : Rose middle.get_faults new.get_faults = reads.cause.2 in
         record {
           files = reads.files ∙ first.files;
-          cause = (inr reads.cause.0, subst (λ n. new.failed ≡ n) (sym reads.cause.0) reads.cause.1, rose_earlier old.get_faults middle.get_faults new.get_faults later rose);
+          cause = (
+            inr (reads.cause.0, reads_instance r.settings r.instance old.files p first.cause),
+            subst (λ n. new.failed ≡ n) (sym reads.cause.0) reads.cause.1,
+            rose_earlier old.get_faults middle.get_faults new.get_faults later rose,
+          );
+          made = tt;
         }
       where
         rose_earlier : (a b d : ℕ) → a ≤ b → Rose b d → Rose a d
         rose_earlier a b d e h = omega (arith, e, h)
     ended_by_cert WriteFault reads = absurd reads.cause
-    ended_by_cert OutOfMemory reads = record { files = reads.files ∙ first.files; cause = tt }
+    ended_by_cert OutOfMemory reads = record { files = reads.files ∙ first.files; cause = tt; made = tt }
 
     module _ (c : Certificate) (second : Reads IsReadAs r.certificate middle new (Ok c)) where
       cert_of_old : FileReadsAs IsReadAs r.certificate old.files (Ok c)
@@ -182,12 +189,13 @@ module _ (r : CheckRequest) where
           subst (λ e. IfSome old.files (λ f. ComesTo f (Check r) e)) j (comes_on old.files p (Ok c) first.cause cert_of_old)
 
       pub ended_by_verdict : (outcome : Outcome) → Judges r.settings p c outcome → Does (Check r) old new outcome
-      ended_by_verdict (Refused cause) j = record { files = second.files ∙ first.files; cause = comes_judged cause j }
+      ended_by_verdict (Refused cause) j = record { files = second.files ∙ first.files; cause = comes_judged cause j; made = tt }
       ended_by_verdict (Printed text has_box) j = record {
         files = second.files ∙ first.files;
         cause = comes_printed old.files new.files p c text has_box (second.files ∙ first.files) first.cause cert_of_old j;
+        made = tt;
       }
-      ended_by_verdict OutOfMemory j = record { files = second.files ∙ first.files; cause = tt }
+      ended_by_verdict OutOfMemory j = record { files = second.files ∙ first.files; cause = tt; made = tt }
       ended_by_verdict (WordsRefused text) j = absurd j
       ended_by_verdict (ReadFault name) j = absurd j
       ended_by_verdict WriteFault j = absurd j

@@ -8,3 +8,6 @@ pub mod Works
 pub mod Once
 pub mod Told
 pub mod Resumes
+pub mod NoFile
+pub mod Budgets
+pub mod Demonstrations

@@ -1,5 +1,6 @@
 -- What the steps of a resume come to.
-use Rattle.std.proofs.Common.{◌≡◌, ℕ, Bool, List, Option, Some, None, Ok, IfSome, IsSomeAnd, refl, sym, ap, subst, ◌∙◌}
+use Rattle.std.proofs.Common.{◌≡◌, ℕ, Bool, List, Option, Some, None, Ok, Err, IfSome, IsSomeAnd, refl, sym, ap, subst, ◌∙◌}
+use Rattle.edge_core.specs.Faults.{Rose}
 use Rattle.edge_core.specs.Store.{Files, StoreState, file, ChangesOnly, Holds}
 use Rattle.orienteering.specs.Instance.{Problem}
 use Rattle.orienteering.specs.Certificate.{Certificate}
@@ -26,11 +27,11 @@ module _ (r : ResumeRequest) where
   plain_as_check : (old new : StoreState) (o : Outcome) → ((text : List ℕ) (has_box : Bool) → o ≡ Printed text has_box → ⊥) →
       Does (Check (check_of r)) old new o → Does (Resume r) old new o
   plain_as_check old new (WordsRefused text) plain does = absurd does.cause
-  plain_as_check old new (Refused cause) plain does = record { files = does.files; cause = does.cause }
+  plain_as_check old new (Refused cause) plain does = record { files = does.files; cause = does.cause; made = tt }
   plain_as_check old new (Printed text has_box) plain does = absurd (plain text has_box refl)
-  plain_as_check old new (ReadFault name) plain does = record { files = does.files; cause = does.cause }
-  plain_as_check old new WriteFault plain does = absurd does.cause
-  plain_as_check old new OutOfMemory plain does = record { files = changes_none r.out old.files new.files does.files; cause = tt }
+  plain_as_check old new (ReadFault name) plain does = record { files = does.files; cause = does.cause; made = tt }
+  plain_as_check old new WriteFault plain does = absurd does.cause.puts
+  plain_as_check old new OutOfMemory plain does = record { files = changes_none r.out old.files new.files does.files; cause = tt; made = tt }
 
   -- a refusal of the check that it begins with ends a resume
   pub ended_as_check : (old new : StoreState) (why : Refusal) → Does (Check (check_of r)) old new (refused why) →
@@ -68,6 +69,7 @@ module _ (r : ResumeRequest) where
               verdict = s.verdict.verdict;
               printed = s.verdict.printed;
               left = s.verdict.left;
+              small = s.verdict.small;
             };
             resumed = s.resumed;
             same = λ none. holds ∙ ap Some (s.bytes_are ∙ ap cert_text (s.resumed.same none)) ∙ sym old_is;
@@ -92,4 +94,22 @@ module _ (r : ResumeRequest) where
       ended_by_report puts = record {
         files = changes_out puts.only;
         cause = printed old.files new.files first.cause cert_of_old (comes old.files first.cause cert_of_old) (changes_out puts.only) puts.cause;
+        made = tt;
       }
+
+      -- a put that failed or wanted memory ends a resume
+      pub ended_by_put : (outcome : Outcome) → Puts r.out bytes third new (Err outcome) → Does (Resume r) old new outcome
+      ended_by_put WriteFault puts = record {
+        files = changes_out puts.only;
+        cause = record {
+          puts = tt;
+          accepted = comes old.files first.cause cert_of_old;
+          rose = subst (λ n. Rose n new.put_faults) (second.put_faults ∙ first.put_faults) puts.cause;
+        };
+        made = tt;
+      }
+      ended_by_put OutOfMemory puts = record { files = changes_out puts.only; cause = tt; made = tt }
+      ended_by_put (WordsRefused other) puts = absurd puts.cause
+      ended_by_put (Refused cause) puts = absurd puts.cause
+      ended_by_put (Printed other any) puts = absurd puts.cause
+      ended_by_put (ReadFault name) puts = absurd puts.cause

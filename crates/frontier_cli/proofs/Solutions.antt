@@ -39,6 +39,7 @@ solution r p c a bytes text has_box f t = record {
     verdict = f.verdict;
     printed = t.printed;
     left = t.left;
+    small = f.small;
     certified = record {
       points = a.points;
       boxes = a.boxes;
@@ -53,7 +54,7 @@ solution r p c a bytes text has_box f t = record {
 }
 
 pub continuation : (r : ResumeRequest) (p : Problem) (old c : Certificate) (a : Acceptance) (bytes text : List ℕ) (has_box : Bool) →
-    IsAccepted p r.settings.labels old → IsContinued p r.settings.labels r.nodes old c a → IsTold r.settings c a bytes text has_box →
+    IsAccepted p r.settings.labels old → IsContinued p r.settings.labels r.nodes r.seed old c a → IsTold r.settings c a bytes text has_box →
     IsContinuation r p old bytes text has_box
 continuation r p old c a bytes text has_box is f t = record {
   accepted = is;
@@ -65,6 +66,7 @@ continuation r p old c a bytes text has_box is f t = record {
     verdict = f.verdict;
     printed = t.printed;
     left = t.left;
+    small = f.small;
     certified = record {
       points = a.points;
       boxes = a.boxes;

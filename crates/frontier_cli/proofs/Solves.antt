@@ -1,5 +1,6 @@
 -- What the steps of a solve come to.
 use Rattle.std.proofs.Common.{◌≡◌, ℕ, Bool, List, Option, Some, None, Result, Ok, Err, IfSome, IsSomeAnd, refl, sym, ap, subst}
+use Rattle.edge_core.specs.Faults.{Rose}
 use Rattle.edge_core.specs.Store.{Files, StoreState, file, ChangesOnly, Holds}
 use Rattle.orienteering.specs.Instance.{Problem}
 use Rattle.command_line.specs.Requests.{SolveRequest}
@@ -38,17 +39,34 @@ module _ (r : SolveRequest) where
   pub ended_by_instance : (old new : StoreState) (outcome : Outcome) → Reads (IsInstance r.settings) r.instance old new (Err outcome) →
       Does (Solve r) old new outcome
   ended_by_instance old new (WordsRefused text) reads = absurd reads.cause
-  ended_by_instance old new (Refused cause) reads = record { files = reads.files; cause = comes old.files (Err cause) reads.cause }
+  ended_by_instance old new (Refused cause) reads = record { files = reads.files; cause = comes old.files (Err cause) reads.cause; made = tt }
   ended_by_instance old new (Printed text has_box) reads = absurd reads.cause
   ended_by_instance old new (ReadFault name) reads =
-      record { files = reads.files; cause = (reads.cause.0, subst (λ n. new.failed ≡ n) (sym reads.cause.0) reads.cause.1, reads.cause.2) }
+      record { files = reads.files; cause = (reads.cause.0, subst (λ n. new.failed ≡ n) (sym reads.cause.0) reads.cause.1, reads.cause.2); made = tt }
   ended_by_instance old new WriteFault reads = absurd reads.cause
-  ended_by_instance old new OutOfMemory reads = record { files = changes_none r.out old.files new.files reads.files; cause = tt }
+  ended_by_instance old new OutOfMemory reads = record { files = changes_none r.out old.files new.files reads.files; cause = tt; made = tt }
 
   module _ (old middle : StoreState) (p : Problem) (first : Reads (IsInstance r.settings) r.instance old middle (Ok p)) where
     module _ (new : StoreState) (bytes : List ℕ) where
       changes_out : ChangesOnly r.out middle.files new.files → ChangesOnly r.out old.files new.files
       changes_out = subst (λ files. ChangesOnly r.out files new.files) first.files
+
+      -- a put that failed or wanted memory ends a solve
+      pub ended_by_put : (outcome : Outcome) → Puts r.out bytes middle new (Err outcome) → Does (Solve r) old new outcome
+      ended_by_put WriteFault puts = record {
+        files = changes_out puts.only;
+        cause = record {
+          puts = tt;
+          accepted = comes old.files (Ok p) first.cause;
+          rose = subst (λ n. Rose n new.put_faults) first.put_faults puts.cause;
+        };
+        made = tt;
+      }
+      ended_by_put OutOfMemory puts = record { files = changes_out puts.only; cause = tt; made = tt }
+      ended_by_put (WordsRefused text) puts = absurd puts.cause
+      ended_by_put (Refused cause) puts = absurd puts.cause
+      ended_by_put (Printed text has_box) puts = absurd puts.cause
+      ended_by_put (ReadFault name) puts = absurd puts.cause
 
       module _ (text : List ℕ) (has_box : Bool) (s : IsSolution r p bytes text has_box) where
         answers : (f g : Files) → IsSomeAnd (file f r.instance) (λ b. IsInstance r.settings b (Ok p)) → file g r.out ≡ Some bytes →
@@ -66,6 +84,7 @@ module _ (r : SolveRequest) where
             verdict = s.verdict.verdict;
             printed = s.verdict.printed;
             left = s.verdict.left;
+            small = s.verdict.small;
           };
           solved = s.solved;
           boxes = s.boxes;
@@ -83,4 +102,5 @@ module _ (r : SolveRequest) where
         ended_by_report puts = record {
           files = changes_out puts.only;
           cause = printed old.files new.files first.cause (changes_out puts.only) puts.cause;
+          made = tt;
         }

@@ -2,7 +2,7 @@
 use Rattle.std.proofs.Common.{◌≡◌, ◌⊎◌, ℕ, Bool, true, false, List, Option, Some, None, IfSome, IsSomeAnd, refl, sym, ap, ◌∙◌, subst, inl, inr, arith}
 use Rattle.edge_core.specs.Faults.{Rose}
 use Rattle.edge_core.specs.Store.{Files, StoreState}
-use Rattle.edge_core.specs.Sink.{SinkState, Gains}
+use Rattle.edge_core.specs.Sink.{SinkState, Gains, GainsFront}
 use Rattle.edge_core.specs.SinkLaws.{front-all}
 use Rattle.orienteering.specs.declared.CheckFail.TheVariants.{OtherInstance, PointRefused, NotRising, NodeRefused, TooManyLabels, Shape, Memory}
 use Rattle.cert_text.specs.Refusal.{HasOneText}
@@ -11,9 +11,9 @@ use Rattle.frontier_cli.specs.Outcome.{Cause, InstanceTooLong, InstanceRefused, 
 use Rattle.frontier_cli.specs.Expected.{Expectation, RefusedBy, Accepted, ComesTo}
 use Rattle.frontier_cli.specs.Answers.{Answers}
 use Rattle.frontier_cli.proofs.Solves.{changes_none}
-use Rattle.frontier_cli.specs.Ran.{LeavesOthers, Names, Works, WorkCause, Tells, told, broke, no_memory, Prints, printed, Ends, Ran}
+use Rattle.frontier_cli.specs.Ran.{ComesToRead, LeavesOthers, Works, WorkCause, Tells, told, broke, no_memory, Prints, printed, Ends, Ran}
 use Rattle.frontier_cli.specs.Ran as ran
-use Rattle.frontier_cli.specs.Promises.{Comes, Certified, EndsSo, FilesStay, HeadlineOf, IsOfCause, IsPrinted, IsRefusedWith, KeptFrom, LeadsTo, OthersStayBy, PrintedFront, PutFailedOrAnswered, ReadFailed, TellsFront, TellsLine, WriteFailed}
+use Rattle.frontier_cli.specs.Promises.{Comes, Certified, EndsSo, FilesStay, HeadlineOf, IsOfCause, IsPrinted, IsRefusedWith, KeptFrom, LeadsTo, MayEnd, OthersStayBy, PrintedFront, PrintsFrontOfAnswer, PutFailedOrAnswered, ReadFailed, TellsFront, TellsLine, WriteFailed}
 use Rattle.frontier_cli.specs.Refusal.{refused}
 use Rattle.frontier_cli.specs.declared.refusal.Refusal.{Refusal}
 use Rattle.frontier_cli.specs.declared.refusal.Refusal.TheVariants as refusals
@@ -40,10 +40,11 @@ report_is_printed false status is = inl is
 
 -- ---- the error stream
 
-pub tells-front : (outcome : Outcome) (err err' : SinkState) (status : ℕ) → Tells outcome err err' status → TellsFront err err'
-tells-front outcome err err' status (told is gains) = (outcome, front-all _ err.bytes err'.bytes gains)
-tells-front outcome err err' status (broke is rose front) = (outcome, front)
-tells-front outcome err err' status (no_memory is front) = (outcome, front)
+pub tells-front : (Ended : Outcome → Type 0) (outcome : Outcome) (err err' : SinkState) (status : ℕ) → Ended outcome →
+    Tells outcome err err' status → TellsFront Ended err err'
+tells-front Ended outcome err err' status ended (told is gains) = (outcome, ended, front-all _ err.bytes err'.bytes gains)
+tells-front Ended outcome err err' status ended (broke is rose front) = (outcome, ended, front)
+tells-front Ended outcome err err' status ended (no_memory is front) = (outcome, ended, front)
 
 pub tells-status : (outcome : Outcome) (err err' : SinkState) (status : ℕ) → Tells outcome err err' status →
     (status ≡ status_of outcome) ⊎ (status ≡ 7)
@@ -54,12 +55,14 @@ tells-status outcome err err' status (no_memory is front) = inr is
 printed_is_not_7 : (status : ℕ) → IsPrinted status → status ≡ 7 → ⊥
 printed_is_not_7 status is seven = grind arith
 
-pub prints-front : (text : List ℕ) (has_box : Bool) (out out' err err' : SinkState) (status : ℕ) →
-    Prints text has_box out out' err err' status → status ≡ 7 → TellsFront err err'
-prints-front text has_box out out' err err' status (printed is gains same) seven =
+pub prints-front : (asked : Option Request) (old new : StoreState) (text : List ℕ) (has_box : Bool) (out out' err err' : SinkState) (status : ℕ) →
+    Prints text has_box out out' err err' status → status ≡ 7 → TellsFront (MayEnd asked old new out out') err err'
+prints-front asked old new text has_box out out' err err' status (printed is gains same) seven =
     absurd (printed_is_not_7 status (report_is_printed has_box status is) seven)
-prints-front text has_box out out' err err' status (ran.print_broke rose front tells) seven = tells-front _ err err' status tells
-prints-front text has_box out out' err err' status (ran.print_no_memory same tells) seven = tells-front _ err err' status tells
+prints-front asked old new text has_box out out' err err' status (ran.print_broke rose front tells) seven =
+    tells-front (MayEnd asked old new out out') WriteFault err err' status (inr rose) tells
+prints-front asked old new text has_box out out' err err' status (ran.print_no_memory same tells) seven =
+    tells-front (MayEnd asked old new out out') OutOfMemory err err' status tt tells
 
 six_is_not_7 : (status : ℕ) → status ≡ 6 → status ≡ 7 → ⊥
 six_is_not_7 status six seven = grind arith
@@ -68,21 +71,43 @@ write_is_not_printed : (status : ℕ) → (status ≡ 6) ⊎ (status ≡ 7) → 
 write_is_not_printed status (inl six) is = grind arith
 write_is_not_printed status (inr seven) is = grind arith
 
-pub tells-line : (outcome : Outcome) (err err' : SinkState) (status : ℕ) → (status ≡ 7 → ⊥) → Tells outcome err err' status →
-    TellsLine err err' status
-tells-line outcome err err' status not_7 (told is gains) = (outcome, is, inl gains)
-tells-line outcome err err' status not_7 (broke is rose front) = (outcome, is, inr (rose, front))
-tells-line outcome err err' status not_7 (no_memory is front) = absurd (not_7 is)
+pub tells-line : (Ended : Outcome → Type 0) (outcome : Outcome) (err err' : SinkState) (status : ℕ) → Ended outcome → (status ≡ 7 → ⊥) →
+    Tells outcome err err' status → TellsLine Ended err err' status
+tells-line Ended outcome err err' status ended not_7 (told is gains) = (outcome, ended, is, inl gains)
+tells-line Ended outcome err err' status ended not_7 (broke is rose front) = (outcome, ended, is, inr (rose, front))
+tells-line Ended outcome err err' status ended not_7 (no_memory is front) = absurd (not_7 is)
 
 -- ---- the status that the files lead to
 
-at_any : (files : Option Files) (P : Files → Type 0) → ((f : Files) → P f) → IfSome files P
+pub at_any : (files : Option Files) (P : Files → Type 0) → ((f : Files) → P f) → IfSome files P
 at_any None P p = tt
 at_any (Some f) P p = p f
 
-from_files : (files : Option Files) (P Q : Files → Type 0) → ((f : Files) → P f → Q f) → IfSome files P → IfSome files Q
+pub from_files : (files : Option Files) (P Q : Files → Type 0) → ((f : Files) → P f → Q f) → IfSome files P → IfSome files Q
 from_files None P Q p h = tt
 from_files (Some f) P Q p h = p f h
+
+pub both_at : (files : Option Files) (P Q R : Files → Type 0) → ((f : Files) → P f → Q f → R f) → IfSome files P → IfSome files Q → IfSome files R
+both_at None P Q R p h k = tt
+both_at (Some f) P Q R p h k = p f h k
+
+-- what ended a run that prints no report may have ended it
+pub may_end : (asked : Option Request) (old new : StoreState) (out out' : SinkState) (outcome : Outcome) →
+    ((text : List ℕ) (has_box : Bool) → outcome ≡ Printed text has_box → ⊥) → Works asked old new outcome → MayEnd asked old new out out' outcome
+may_end None old new out out' (WordsRefused text) plain works = refl
+may_end None old new out out' OutOfMemory plain works = tt
+may_end None old new out out' (Refused cause) plain works = absurd works.0
+may_end None old new out out' (Printed text has_box) plain works = absurd works.0
+may_end None old new out out' (ReadFault name) plain works = absurd works.0
+may_end None old new out out' WriteFault plain works = absurd works.0
+may_end (Some request) old new out out' (WordsRefused text) plain works = absurd works.cause
+may_end (Some request) old new out out' (Refused cause) plain works =
+    from_files old.files _ _ (λ f comes. (RefusedBy cause, comes, refl)) works.cause
+may_end (Some request) old new out out' (Printed text has_box) plain works = absurd (plain text has_box refl)
+may_end (Some request) old new out out' (ReadFault name) plain works =
+    (works.cause.1, (subst (ComesToRead request old.files) (sym works.cause.1) works.cause.0, works.cause.2))
+may_end (Some request) old new out out' WriteFault plain works = inl works.cause
+may_end (Some request) old new out out' OutOfMemory plain works = tt
 
 module _ (one : HasOneText) (old new : StoreState) (out out' : SinkState) where
   kept : (asked : Option Request) (status : ℕ) → KeptFrom asked old new out out' status → EndsSo asked old new out out' status
@@ -102,7 +127,7 @@ module _ (one : HasOneText) (old new : StoreState) (out out' : SinkState) where
   outcome_leads (Some request) (Refused cause) status works is plain = led request status (RefusedBy cause) is works.cause
   outcome_leads (Some request) (Printed text has_box) status works is plain = absurd (plain text has_box refl)
   outcome_leads (Some request) (ReadFault name) status works is plain =
-      kept (Some request) status (inr (inl (is, (subst (Names request) (sym works.cause.1) works.cause.0, works.cause.2))))
+      kept (Some request) status (inr (inl (is, (subst (ComesToRead request old.files) (sym works.cause.1) works.cause.0, works.cause.2))))
   outcome_leads (Some request) WriteFault status works is plain = kept (Some request) status (inr (inr (is, inl works.cause)))
   outcome_leads (Some request) OutOfMemory status works is plain = kept (Some request) status (inl is)
 
@@ -168,7 +193,7 @@ headline_at (Resume r) before after text has_box out out' status answers gains i
 headline_at (Generate r) before after text has_box out out' status answers gains is = tt
 headline_at (Demo r) before after text has_box out out' status answers gains is = tt
 
-some_after : (after : Option Files) (P : Files → Type 0) (X : Type 0) → ((g : Files) → P g → X) → IsSomeAnd after P → X
+pub some_after : (after : Option Files) (P : Files → Type 0) (X : Type 0) → ((g : Files) → P g → X) → IsSomeAnd after P → X
 some_after None P X p h = absurd h
 some_after (Some g) P X p h = p g h
 
@@ -210,6 +235,13 @@ pub printed_only : (old new : StoreState) (text : List ℕ) (has_box : Bool) (as
 printed_only old new text has_box None works = absurd works.0
 printed_only old new text has_box (Some request) works = from_files old.files _ _ (λ f both. (Accepted, both.0, refl)) works.cause
 
+-- the front of an answer
+front_of_answer : (asked : Option Request) (old new : StoreState) (text : List ℕ) (has_box : Bool) (out out' : SinkState) →
+    Works asked old new (Printed text has_box) → GainsFront text out.bytes out'.bytes → PrintsFrontOfAnswer asked old.files new.files out out'
+front_of_answer None old new text has_box out out' works front = absurd works.0
+front_of_answer (Some request) old new text has_box out out' works front =
+    from_files old.files _ _ (λ f both. both_after new.files _ _ (λ g answers. (text, has_box, answers, front)) both.1) works.cause
+
 -- ---- how a text that is printed ends
 
 prints_status : (text : List ℕ) (has_box : Bool) (out out' err err' : SinkState) (status : ℕ) →
@@ -240,12 +272,22 @@ module _ (text : List ℕ) (has_box : Bool) (out out' err err' : SinkState) (sta
     go (ran.print_no_memory same tells) =
         absurd (six_is_not_7 status six (elim (tells-status OutOfMemory err err' status tells) [ inl is ↦ is | inr is ↦ is ]))
 
-  pub print_not_printed : (IsPrinted status → ⊥) → PrintedFront out out'
-  print_not_printed unprinted = go prints where
-    go : Prints text has_box out out' err err' status → PrintedFront out out'
+  pub print_not_printed : (asked : Option Request) (old new : StoreState) → Works asked old new (Printed text has_box) →
+      (IsPrinted status → ⊥) → PrintedFront asked old new out out'
+  print_not_printed asked old new works unprinted = go prints where
+    go : Prints text has_box out out' err err' status → PrintedFront asked old new out out'
     go (printed is gains same) = absurd (unprinted (report_is_printed has_box status is))
-    go (ran.print_broke rose front tells) = inr (rose, (text, front))
+    go (ran.print_broke rose front tells) = inr (rose, front_of_answer asked old new text has_box out out' works front)
     go (ran.print_no_memory same tells) = inl same
+
+  -- a text that is printed has the status of its boxes
+  pub print_status : IsPrinted status → status ≡ report_status has_box
+  print_status is = go prints where
+    go : Prints text has_box out out' err err' status → status ≡ report_status has_box
+    go (printed same gains silent) = same
+    go (ran.print_broke rose front tells) = absurd (write_is_not_printed status (tells-status WriteFault err err' status tells) is)
+    go (ran.print_no_memory same tells) =
+        absurd (write_is_not_printed status (inr (elim (tells-status OutOfMemory err err' status tells) [ inl e ↦ e | inr e ↦ e ])) is)
 
   pub print_silent : IsPrinted status → err' ≡ err
   print_silent is = go prints where
@@ -255,12 +297,13 @@ module _ (text : List ℕ) (has_box : Bool) (out out' err err' : SinkState) (sta
     go (ran.print_no_memory same tells) =
         absurd (write_is_not_printed status (inr (elim (tells-status OutOfMemory err err' status tells) [ inl e ↦ e | inr e ↦ e ])) is)
 
-  pub print_told : (IsPrinted status → ⊥) → (status ≡ 7 → ⊥) → TellsLine err err' status
-  print_told unprinted not_7 = go prints where
-    go : Prints text has_box out out' err err' status → TellsLine err err' status
+  pub print_told : (asked : Option Request) (old new : StoreState) → (IsPrinted status → ⊥) → (status ≡ 7 → ⊥) →
+      TellsLine (MayEnd asked old new out out') err err' status
+  print_told asked old new unprinted not_7 = go prints where
+    go : Prints text has_box out out' err err' status → TellsLine (MayEnd asked old new out out') err err' status
     go (printed same gains silent) = absurd (unprinted (report_is_printed has_box status same))
-    go (ran.print_broke rose front tells) = tells-line WriteFault err err' status not_7 tells
-    go (ran.print_no_memory same tells) = tells-line OutOfMemory err err' status not_7 tells
+    go (ran.print_broke rose front tells) = tells-line (MayEnd asked old new out out') WriteFault err err' status (inr rose) not_7 tells
+    go (ran.print_no_memory same tells) = tells-line (MayEnd asked old new out out') OutOfMemory err err' status tt not_7 tells
 
 pub no_asked_prints : (asked : Option Request) (old new : StoreState) (text : List ℕ) (has_box : Bool) → Works asked old new (Printed text has_box) →
     asked ≡ None → ⊥
@@ -271,8 +314,8 @@ no_asked_prints (Some request) old new text has_box works none = absurd (cc)
 
 -- a refusal prints nothing
 pub refusal_is_plain : (r : Refusal) (text : List ℕ) (has_box : Bool) → refused r ≡ Printed text has_box → ⊥
-refusal_is_plain (refusals.Words None) text has_box is = absurd (cc)
-refusal_is_plain (refusals.Words (Some words)) text has_box is = absurd (cc)
+refusal_is_plain (refusals.Words opening subject ending) text has_box is = absurd (cc)
+refusal_is_plain (refusals.Reader words) text has_box is = absurd (cc)
 refusal_is_plain refusals.InstanceTooLong text has_box is = absurd (cc)
 refusal_is_plain (refusals.Instance line cause) text has_box is = absurd (cc)
 refusal_is_plain (refusals.CertText at cause) text has_box is = absurd (cc)
@@ -303,8 +346,8 @@ told_not_printed OutOfMemory p status (inl e) is = grind arith
 
 -- the end of a run that tells a refusal
 pub ends_told : (r : Refusal) (out err err' : SinkState) (status : ℕ) → Tells (refused r) err err' status → Ends (refused r) out out err err' status
-ends_told (refusals.Words None) out err err' status tells = (refl, tells)
-ends_told (refusals.Words (Some words)) out err err' status tells = (refl, tells)
+ends_told (refusals.Words opening subject ending) out err err' status tells = (refl, tells)
+ends_told (refusals.Reader words) out err err' status tells = (refl, tells)
 ends_told refusals.InstanceTooLong out err err' status tells = (refl, tells)
 ends_told (refusals.Instance line cause) out err err' status tells = (refl, tells)
 ends_told (refusals.CertText at cause) out err err' status tells = (refl, tells)
@@ -369,7 +412,7 @@ module _ (old new : StoreState) (outcome : Outcome) (plain : (text : List ℕ) (
     go : (asked : Option Request) (o : Outcome) → Works asked old new o → ((text : List ℕ) (has_box : Bool) → o ≡ Printed text has_box → ⊥) →
         (status ≡ status_of o) ⊎ (status ≡ 7) → ReadFailed asked old new
     go asked o works p (inr seven) = absurd (grind arith)
-    go (Some request) (ReadFault name) works p (inl e) = (subst (Names request) (sym works.cause.1) works.cause.0, works.cause.2)
+    go (Some request) (ReadFault name) works p (inl e) = (subst (ComesToRead request old.files) (sym works.cause.1) works.cause.0, works.cause.2)
     go (Some request) (Refused cause) works p (inl e) = absurd (cause_is_no_other cause status e (inr (inl five)))
     go (Some request) (WordsRefused text) works p (inl e) = absurd works.cause
     go (Some request) (Printed text has_box) works p (inl e) = absurd (p text has_box refl)
@@ -424,8 +467,8 @@ files_stay_told (Some (Solve r)) old new outcome status works ends plain =
     put_perhaps r.out outcome status old.files new.files ends plain works.files
 files_stay_told (Some (Resume r)) old new outcome status works ends plain =
     put_perhaps r.out outcome status old.files new.files ends plain works.files
-files_stay_told (Some (Generate r)) old new outcome status works ends plain = works.files
-files_stay_told (Some (Demo r)) old new outcome status works ends plain = works.files
+files_stay_told (Some (Generate r)) old new outcome status works ends plain = ap (λ s. s.files) works.files
+files_stay_told (Some (Demo r)) old new outcome status works ends plain = ap (λ s. s.files) works.files
 
 pub files_stay_printed : (asked : Option Request) (old new : StoreState) (text : List ℕ) (has_box : Bool) (out out' err err' : SinkState) (status : ℕ) →
     Works asked old new (Printed text has_box) → Prints text has_box out out' err err' status → FilesStay asked status old.files new.files
@@ -439,8 +482,8 @@ files_stay_printed (Some (Resume r)) old new text has_box out out' err err' stat
   others = works.files;
   all = λ none. absurd (none (prints_status text has_box out out' err err' status prints));
 }
-files_stay_printed (Some (Generate r)) old new text has_box out out' err err' status works prints = works.files
-files_stay_printed (Some (Demo r)) old new text has_box out out' err err' status works prints = works.files
+files_stay_printed (Some (Generate r)) old new text has_box out out' err err' status works prints = ap (λ s. s.files) works.files
+files_stay_printed (Some (Demo r)) old new text has_box out out' err err' status works prints = ap (λ s. s.files) works.files
 
 -- ---- what the store holds where nothing could be printed
 

@@ -1,29 +1,36 @@
 -- What the work of words comes to.
-use Rattle.std.proofs.Common.{◌≡◌, ℕ, Bool, List, Option, Some, None, Err, IfSome, IsSomeAnd, refl, sym, ap, subst}
+use Rattle.std.proofs.Common.{◌≡◌, ℕ, Bool, List, Option, Some, None, IfSome, IsSomeAnd, refl, sym, subst}
 use Rattle.edge_core.specs.Store.{Files, StoreState}
 use Rattle.command_line.specs.Requests.{GenerateRequest, DemoRequest}
 use Rattle.command_line.specs.Requests.{Request, Check, Solve, Resume, Generate, Demo}
-use Rattle.frontier_cli.specs.Outcome.{Cause, Outcome, WordsRefused, Refused, Printed, ReadFault, WriteFault, OutOfMemory}
+use Rattle.frontier_cli.specs.Outcome.{Outcome, WordsRefused, Refused, Printed, ReadFault, WriteFault, OutOfMemory}
 use Rattle.frontier_cli.specs.Answers.{Demonstrates, IsGenerated}
 use Rattle.frontier_cli.proofs.Solves.{leaves_none}
-use Rattle.frontier_cli.specs.Files.{demo_instance}
-use Rattle.frontier_cli.specs.Expected.{RefusedBy, Accepted, ComesTo, of_instance}
-use Rattle.frontier_cli.specs.Ran.{DeclinesWords, Demos, Does, Generates, Leaves, Works}
+use Rattle.frontier_cli.specs.Expected.{Accepted, ComesTo}
+use Rattle.frontier_cli.specs.Ran.{DeclinesWords, Demos, Does, Generates, Leaves, Makes, Works}
 
 -- where nothing was done to the files, they are left as each request leaves them
-leaves_same : (request : Request) (outcome : Outcome) (files : Option Files) → Leaves request outcome files files
-leaves_same (Check r) outcome files = refl
-leaves_same (Solve r) outcome files = leaves_none r.out outcome files
-leaves_same (Resume r) outcome files = leaves_none r.out outcome files
-leaves_same (Generate r) outcome files = refl
-leaves_same (Demo r) outcome files = refl
+leaves_same : (request : Request) (outcome : Outcome) (store : StoreState) → Leaves request outcome store store
+leaves_same (Check r) outcome store = refl
+leaves_same (Solve r) outcome store = leaves_none r.out outcome store.files
+leaves_same (Resume r) outcome store = leaves_none r.out outcome store.files
+leaves_same (Generate r) outcome store = refl
+leaves_same (Demo r) outcome store = refl
+
+-- every request may find no memory
+makes_memory : (request : Request) → Makes request OutOfMemory
+makes_memory (Check r) = tt
+makes_memory (Solve r) = tt
+makes_memory (Resume r) = tt
+makes_memory (Generate r) = tt
+makes_memory (Demo r) = tt
 
 pub ended_by_words : (asked : Option Request) (store : StoreState) (outcome : Outcome) → DeclinesWords asked outcome →
     Works asked store store outcome
 ended_by_words None store (WordsRefused text) d = (refl, refl)
 ended_by_words None store OutOfMemory d = (tt, refl)
 ended_by_words (Some request) store (WordsRefused text) d = absurd (cc)
-ended_by_words (Some request) store OutOfMemory d = record { files = leaves_same request OutOfMemory store.files; cause = tt }
+ended_by_words (Some request) store OutOfMemory d = record { files = leaves_same request OutOfMemory store; cause = tt; made = makes_memory request }
 ended_by_words asked store (Refused cause) d = absurd d
 ended_by_words asked store (Printed text has_box) d = absurd d
 ended_by_words asked store (ReadFault name) d = absurd d
@@ -41,8 +48,8 @@ printed_generated None r text has_box is = tt
 printed_generated (Some f) r text has_box is = (refl, is)
 
 pub ended_by_generating : (r : GenerateRequest) (store : StoreState) (outcome : Outcome) → Generates r outcome → Does (Generate r) store store outcome
-ended_by_generating r store (Printed text has_box) is = record { files = refl; cause = printed_generated store.files r text has_box is }
-ended_by_generating r store OutOfMemory is = record { files = refl; cause = tt }
+ended_by_generating r store (Printed text has_box) is = record { files = refl; cause = printed_generated store.files r text has_box is; made = is }
+ended_by_generating r store OutOfMemory is = record { files = refl; cause = tt; made = tt }
 ended_by_generating r store (WordsRefused text) is = absurd is
 ended_by_generating r store (Refused cause) is = absurd is
 ended_by_generating r store (ReadFault name) is = absurd is
@@ -50,20 +57,15 @@ ended_by_generating r store WriteFault is = absurd is
 
 -- ---- a demonstration
 
-demo_refused : (files : Option Files) (r : DemoRequest) (cause : Cause) → demo_instance r ≡ Err cause →
-    IfSome files (λ f. ComesTo f (Demo r) (RefusedBy cause))
-demo_refused None r cause is = tt
-demo_refused (Some f) r cause is = sym (ap of_instance is)
-
 demo_printed : (files : Option Files) (r : DemoRequest) (text : List ℕ) (has_box : Bool) → Demonstrates r text has_box →
     IfSome files (λ f. ComesTo f (Demo r) Accepted × IsSomeAnd files (λ g. Demonstrates r text has_box))
 demo_printed None r text has_box is = tt
-demo_printed (Some f) r text has_box is = (sym (ap of_instance is.instance_is), is)
+demo_printed (Some f) r text has_box is = (refl, is)
 
 pub ended_by_demo : (r : DemoRequest) (store : StoreState) (outcome : Outcome) → Demos r outcome → Does (Demo r) store store outcome
-ended_by_demo r store (Refused cause) is = record { files = refl; cause = demo_refused store.files r cause is }
-ended_by_demo r store (Printed text has_box) is = record { files = refl; cause = demo_printed store.files r text has_box is }
-ended_by_demo r store OutOfMemory is = record { files = refl; cause = tt }
+ended_by_demo r store (Printed text has_box) is = record { files = refl; cause = demo_printed store.files r text has_box is; made = is }
+ended_by_demo r store OutOfMemory is = record { files = refl; cause = tt; made = tt }
 ended_by_demo r store (WordsRefused text) is = absurd is
+ended_by_demo r store (Refused cause) is = absurd is
 ended_by_demo r store (ReadFault name) is = absurd is
 ended_by_demo r store WriteFault is = absurd is

@@ -1,10 +1,12 @@
 -- What is printed, and what it says.
-use Rattle.std.specs.Prelude.{◌≡◌, ◌==◌, ◌≤◌, ℕ, not, Bool, true, false, List, [], ◌++◌, length, Option, Some, Ok, option_map, if◌then◌else◌}
+use Rattle.std.specs.Prelude.{◌≡◌, ◌==◌, ◌≤◌, ◌*◌, ℕ, not, Bool, true, false, List, [], ◌++◌, length, Option, Some, Ok, option_map, if◌then◌else◌}
 use Rattle.edge_core.specs.Store.{Files, file}
 use Rattle.orienteering.specs.Instance.{Problem}
 use Rattle.orienteering.specs.Certificate.{Certificate, Acceptance}
 use Rattle.orienteering.specs.Decide.{decide}
 use Rattle.orienteering.specs.Frontier.{IsFrontier, IsWholeFrontier}
+use Rattle.orienteering.specs.Region.{root}
+use Rattle.orienteering.specs.Weight.{weight}
 use Rattle.orienteering.specs.declared.Box2.{Box2}
 use Rattle.orienteering.specs.declared.Listed.{Listed}
 use Rattle.cert_text.specs.Text.{cert_text, IsCert}
@@ -30,6 +32,10 @@ pub record IsCertifiedReport (s : Settings) (p : Problem) (text : List ℕ) (has
   pub frontier : IsFrontier p points boxes
   pub whole : has_box ≡ false → IsWholeFrontier p points
 
+-- an accepted tree has at most four times as many nodes as its root weighs
+abbrev pub IsSmall : Problem → Certificate → Type 0
+IsSmall p c = length c.nodes ≤ 4 * weight (root p)
+
 -- the certificate whose text these bytes are is accepted, and the text reports what it accepts
 pub record IsReportOf (s : Settings) (p : Problem) (bytes text : List ℕ) (has_box : Bool) : Type 0 where
   pub certificate : Certificate
@@ -39,6 +45,7 @@ pub record IsReportOf (s : Settings) (p : Problem) (bytes text : List ℕ) (has_
   pub verdict : decide p s.labels certificate ≡ Ok accepted
   pub printed : text ≡ report_text s.style accepted.points accepted.boxes
   pub left : has_box ≡ has_some accepted.boxes
+  pub small : IsSmall p certificate
 
 -- the report of the certificate under a name, for the instance under another
 pub record Reports (s : Settings) (instance certificate : Option (List ℕ)) (text : List ℕ) (has_box : Bool) : Type 0 where
@@ -74,7 +81,7 @@ pub record Resumes (r : ResumeRequest) (instance certificate out : Option (List 
   pub bytes : List ℕ
   pub put : out ≡ Some bytes
   pub report : IsReportOf r.settings problem bytes text has_box
-  pub resumed : IsResumed problem r.settings.labels r.nodes old report.certificate
+  pub resumed : IsResumed problem r.settings.labels r.nodes r.seed old report.certificate
   pub same : LeavesNoBox problem r.settings.labels old → out ≡ certificate
   pub boxes : has_box ≡ true → UsesUp (budget_after (length old.nodes) r.nodes) (length report.certificate.nodes)
   pub certified : IsCertifiedReport r.settings problem text has_box

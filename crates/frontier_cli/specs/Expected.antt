@@ -8,7 +8,7 @@ use Rattle.orienteering.specs.declared.CheckFail.{CheckFail}
 use Rattle.command_line.specs.Requests.{Request, Check, Solve, Resume, Generate, Demo}
 use Rattle.command_line.specs.declared.settings.Settings.{Settings}
 use Rattle.frontier_cli.specs.Outcome.{Cause, CertRefused}
-use Rattle.frontier_cli.specs.Files.{demo_instance, instance_in, IsReadAs}
+use Rattle.frontier_cli.specs.Files.{instance_in, IsReadAs}
 
 pub data Expectation : Type 0 where
   -- a file that is needed is missing
@@ -54,4 +54,4 @@ ComesTo files (Check r) e = CheckComesTo r.settings (file files r.instance) (fil
 ComesTo files (Solve r) e = SolveComesTo r.settings (file files r.instance) e
 ComesTo files (Resume r) e = CheckComesTo r.settings (file files r.instance) (file files r.certificate) e
 ComesTo files (Generate r) e = e ≡ Accepted
-ComesTo files (Demo r) e = e ≡ of_instance (demo_instance r)
+ComesTo files (Demo r) e = e ≡ Accepted

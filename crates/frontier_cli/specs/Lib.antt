@@ -1,6 +1,7 @@
 pub mod Lines
 pub mod Outcome
 pub mod Refusal
+pub mod Unread
 pub mod Files
 pub mod Expected
 pub mod Answers

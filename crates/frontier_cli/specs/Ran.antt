@@ -1,11 +1,12 @@
 -- How a run goes, step by step: what it reads, what it comes to, what it prints and what it tells.
-use Rattle.std.specs.Prelude.{◌≡◌, ◌⊎◌, ◌≤◌, ℕ, Bool, true, List, [], ◌++◌, length, Option, Some, None, Result, Ok, Err, IfSome, IsSomeAnd}
+use Rattle.std.specs.Prelude.{◌≡◌, ◌⊎◌, ◌≤◌, ℕ, Bool, true, List, [], ◌++◌, length, Option, Some, None, Result, Ok, Err, IfSome, IsSomeAnd, option_map}
 use Rattle.edge_core.specs.Faults.{Rose}
 use Rattle.edge_core.specs.Store.{Files, StoreState, file, ChangesOnly, Holds}
 use Rattle.edge_core.specs.Sink.{SinkState, Gains, GainsFront}
 use Rattle.sweep_solver.specs.Solved.{IsAccepted, IsSolved, UsesUp}
 use Rattle.sweep_solver.specs.Resumed.{IsResumed, budget_after}
 use Rattle.cert_text.specs.Text.{cert_text, IsCert}
+use Rattle.command_line.specs.Told.{Told, Fault, line_of as line_of_words}
 use Rattle.command_line.specs.Requests.{SolveRequest, ResumeRequest, GenerateRequest, DemoRequest}
 use Rattle.command_line.specs.Requests.{Request, Check, Solve, Resume, Generate, Demo}
 use Rattle.orienteering.specs.Certificate.{Certificate, Acceptance}
@@ -17,9 +18,9 @@ use Rattle.orienteering.specs.declared.CheckFail.TheVariants.{Memory}
 use Rattle.command_line.specs.declared.settings.Settings.{Settings}
 use Rattle.report_text.specs.Report.{report_text, summary_text}
 use Rattle.frontier_cli.specs.Outcome.{Cause, CertRefused, Outcome, WordsRefused, Refused, Printed, Step, ReadFault, WriteFault, OutOfMemory, status_of, report_status, line_of}
-use Rattle.frontier_cli.specs.Files.{demo_instance}
+use Rattle.frontier_cli.specs.Files.{instance_in}
 use Rattle.frontier_cli.specs.Expected.{RefusedBy, Accepted, ComesTo, of_verdict}
-use Rattle.frontier_cli.specs.Answers.{Answers, Demonstrates, IsCertifiedReport, IsGenerated, behind, has_some}
+use Rattle.frontier_cli.specs.Answers.{Answers, Demonstrates, IsCertifiedReport, IsGenerated, IsSmall, behind, has_some}
 
 -- the bytes of the file are read as this, where the store tells
 abbrev pub FileReadsAs : {V : Type 0} → (List ℕ → Result V Cause → Type 0) → List ℕ → Option Files → Result V Cause → Type 0
@@ -63,6 +64,7 @@ pub record PrintsVerdict (s : Settings) (p : Problem) (c : Certificate) (text : 
   pub verdict : decide p s.labels c ≡ Ok accepted
   pub printed : text ≡ report_text s.style accepted.points accepted.boxes
   pub left : has_box ≡ has_some accepted.boxes
+  pub small : IsSmall p c
   pub certified : IsCertifiedReport s p text has_box
 
 -- what the verdict on a certificate comes to; want of memory is free
@@ -78,13 +80,15 @@ pub record IsFound (p : Problem) (labels : ℕ) (nodes : Option ℕ) (seed : ℕ
   pub verdict : decide p labels c ≡ Ok a
   pub frontier : IsFrontier p a.points a.boxes
   pub whole : a.boxes ≡ [] → IsWholeFrontier p a.points
+  pub small : IsSmall p c
 
 -- a certificate that goes on from another, with what it accepts
-pub record IsContinued (p : Problem) (labels : ℕ) (nodes : Option ℕ) (old c : Certificate) (a : Acceptance) : Type 0 where
-  pub resumed : IsResumed p labels nodes old c
+pub record IsContinued (p : Problem) (labels : ℕ) (nodes : Option ℕ) (seed : ℕ) (old c : Certificate) (a : Acceptance) : Type 0 where
+  pub resumed : IsResumed p labels nodes seed old c
   pub verdict : decide p labels c ≡ Ok a
   pub frontier : IsFrontier p a.points a.boxes
   pub whole : a.boxes ≡ [] → IsWholeFrontier p a.points
+  pub small : IsSmall p c
 
 -- the text of the certificate, and the report of what it accepts
 pub record IsTold (s : Settings) (c : Certificate) (a : Acceptance) (bytes text : List ℕ) (has_box : Bool) : Type 0 where
@@ -115,7 +119,7 @@ pub record IsContinuation (r : ResumeRequest) (p : Problem) (old : Certificate) 
   pub is_cert : IsCert certificate
   pub bytes_are : bytes ≡ cert_text certificate
   pub verdict : PrintsVerdict r.settings p certificate text has_box
-  pub resumed : IsResumed p r.settings.labels r.nodes old certificate
+  pub resumed : IsResumed p r.settings.labels r.nodes r.seed old certificate
   pub boxes : has_box ≡ true → UsesUp (budget_after (length old.nodes) r.nodes) (length certificate.nodes)
 
 -- why a put ended so: the name holds the bytes, a count rose, or want of memory
@@ -136,9 +140,8 @@ Generates r (Printed text has_box) = IsGenerated r text has_box
 Generates r OutOfMemory = Unit {0}
 Generates r outcome = ⊥
 
--- the generated instance is refused, or its summary is printed; want of memory is free
+-- the summary of the generated instance is printed; want of memory is free
 abbrev pub Demos : DemoRequest → Outcome → Type 0
-Demos r (Refused cause) = demo_instance r ≡ Err cause
 Demos r (Printed text has_box) = Demonstrates r text has_box
 Demos r OutOfMemory = Unit {0}
 Demos r outcome = ⊥
@@ -148,21 +151,39 @@ abbrev pub refused_by : CheckFail → Outcome
 refused_by Memory = OutOfMemory
 refused_by fail = Refused (CertRefused fail)
 
--- the request reads the file of this name
-abbrev pub Names : Request → List ℕ → Type 0
-Names (Check r) name = (name ≡ r.instance) ⊎ (name ≡ r.certificate)
-Names (Solve r) name = name ≡ r.instance
-Names (Resume r) name = (name ≡ r.instance) ⊎ (name ≡ r.certificate)
-Names (Generate r) name = ⊥
-Names (Demo r) name = ⊥
+-- the instance under this name is read without refusal, where the store tells
+abbrev pub ReadsInstance : Settings → List ℕ → Option Files → Type 0
+ReadsInstance s name files = IfSome files (λ files. (p : Problem) × (option_map (instance_in s) (file files name) ≡ Some (Ok p)))
 
--- a put of the request failed
-abbrev pub PutFailed : Request → StoreState → StoreState → Type 0
-PutFailed (Check r) old new = ⊥
-PutFailed (Solve r) old new = Rose old.put_faults new.put_faults
-PutFailed (Resume r) old new = Rose old.put_faults new.put_faults
-PutFailed (Generate r) old new = ⊥
-PutFailed (Demo r) old new = ⊥
+-- the request comes to reading the file of this name: the instance first, and a certificate only once the instance is read
+abbrev pub ComesToRead : Request → Option Files → List ℕ → Type 0
+ComesToRead (Check r) files name = (name ≡ r.instance) ⊎ ((name ≡ r.certificate) × ReadsInstance r.settings r.instance files)
+ComesToRead (Solve r) files name = name ≡ r.instance
+ComesToRead (Resume r) files name = (name ≡ r.instance) ⊎ ((name ≡ r.certificate) × ReadsInstance r.settings r.instance files)
+ComesToRead (Generate r) files name = ⊥
+ComesToRead (Demo r) files name = ⊥
+
+-- the request puts a certificate
+abbrev pub PutsFile : Request → Type 0
+PutsFile (Check r) = ⊥
+PutsFile (Solve r) = Unit {0}
+PutsFile (Resume r) = Unit {0}
+PutsFile (Generate r) = ⊥
+PutsFile (Demo r) = ⊥
+
+-- a put of the request failed, before which its files were accepted
+pub record PutFailed (request : Request) (old new : StoreState) : Type 0 where
+  pub puts : PutsFile request
+  pub accepted : IfSome old.files (λ files. ComesTo files request Accepted)
+  pub rose : Rose old.put_faults new.put_faults
+
+-- what a request that reads no file comes to
+abbrev pub Makes : Request → Outcome → Type 0
+Makes (Check r) outcome = Unit {0}
+Makes (Solve r) outcome = Unit {0}
+Makes (Resume r) outcome = Unit {0}
+Makes (Generate r) outcome = Generates r outcome
+Makes (Demo r) outcome = Demos r outcome
 
 -- why the work of a request came to this
 abbrev pub WorkCause : Request → StoreState → StoreState → Outcome → Type 0
@@ -170,7 +191,7 @@ WorkCause request old new (WordsRefused text) = ⊥
 WorkCause request old new (Refused cause) = IfSome old.files (λ files. ComesTo files request (RefusedBy cause))
 WorkCause request old new (Printed text has_box) =
     IfSome old.files (λ files. ComesTo files request Accepted × IsSomeAnd new.files (λ after. Answers request files after text has_box))
-WorkCause request old new (ReadFault name) = Names request name × (new.failed ≡ name) × Rose old.get_faults new.get_faults
+WorkCause request old new (ReadFault name) = ComesToRead request old.files name × (new.failed ≡ name) × Rose old.get_faults new.get_faults
 WorkCause request old new WriteFault = PutFailed request old new
 WorkCause request old new OutOfMemory = Unit {0}
 
@@ -183,23 +204,29 @@ LeavesOthers name (Printed text has_box) old new = ChangesOnly name old new
 LeavesOthers name WriteFault old new = ChangesOnly name old new
 LeavesOthers name OutOfMemory old new = ChangesOnly name old new
 
--- which files the work leaves, by what it came to
-abbrev pub Leaves : Request → Outcome → Option Files → Option Files → Type 0
-Leaves (Check r) outcome old new = new ≡ old
-Leaves (Solve r) outcome old new = LeavesOthers r.out outcome old new
-Leaves (Resume r) outcome old new = LeavesOthers r.out outcome old new
+-- what the work leaves of the store, by what it came to: a request that reads no file leaves all of it
+abbrev pub Leaves : Request → Outcome → StoreState → StoreState → Type 0
+Leaves (Check r) outcome old new = new.files ≡ old.files
+Leaves (Solve r) outcome old new = LeavesOthers r.out outcome old.files new.files
+Leaves (Resume r) outcome old new = LeavesOthers r.out outcome old.files new.files
 Leaves (Generate r) outcome old new = new ≡ old
 Leaves (Demo r) outcome old new = new ≡ old
 
 -- the work of accepted words
 pub record Does (request : Request) (old new : StoreState) (outcome : Outcome) : Type 0 where
-  pub files : Leaves request outcome old.files new.files
+  pub files : Leaves request outcome old new
   pub cause : WorkCause request old new outcome
+  pub made : Makes request outcome
 
 -- the words are refused, with some text for the user
 abbrev pub Declines : Outcome → Type 0
 Declines (WordsRefused text) = Unit {0}
 Declines outcome = ⊥
+
+-- the line of this cause is told, or the option reader's own text for its fault
+abbrev pub TellsCause : Told → Outcome → Type 0
+TellsCause cause (WordsRefused text) = (text ≡ line_of_words cause) ⊎ (cause ≡ Fault)
+TellsCause cause outcome = ⊥
 
 -- the words are refused, since they ask for nothing; want of memory is free
 abbrev pub DeclinesWords : Option Request → Outcome → Type 0
@@ -222,7 +249,7 @@ pub data Tells (outcome : Outcome) (old new : SinkState) (status : ℕ) : Type 0
 pub data Prints (text : List ℕ) (has_box : Bool) (out out' err err' : SinkState) (status : ℕ) : Type 0 where
   printed : status ≡ report_status has_box → Gains text out.bytes out'.bytes → err' ≡ err → Prints text has_box out out' err err' status
   print_broke : Rose out.faults out'.faults → GainsFront text out.bytes out'.bytes → Tells WriteFault err err' status → Prints text has_box out out' err err' status
-  print_no_memory : out'.bytes ≡ out.bytes → Tells OutOfMemory err err' status → Prints text has_box out out' err err' status
+  print_no_memory : out' ≡ out → Tells OutOfMemory err err' status → Prints text has_box out out' err err' status
 
 -- a run ends: a text is printed, any other outcome is told
 abbrev pub Ends : Outcome → SinkState → SinkState → SinkState → SinkState → ℕ → Type 0

@@ -1,15 +1,15 @@
 -- What the program's own types stand for.
-use Rattle.std.specs.Prelude.{ℕ, List, Vec, Some, None, Result, Ok, Err, string_bytes, decimal, codes}
+use Rattle.std.specs.Prelude.{ℕ, ◌++◌, List, Vec, Result, Ok, Err, string_bytes, decimal}
 use Rattle.frontier_cli.specs.Outcome as outcome
 use Rattle.frontier_cli.specs.declared.refusal.Refusal.{Refusal}
-use Rattle.frontier_cli.specs.declared.refusal.Refusal.TheVariants.{Words, InstanceTooLong, Instance, CertText, Cert, Read, Write, Memory}
+use Rattle.frontier_cli.specs.declared.refusal.Refusal.TheVariants.{Words, Reader, InstanceTooLong, Instance, CertText, Cert, Read, Write, Memory}
 use Rattle.frontier_cli.specs.declared.lines.Piece.{Piece}
 use Rattle.frontier_cli.specs.declared.lines.Piece.TheVariants.{Text, Number}
 use Rattle.frontier_cli.specs.declared.work.Report.{Report}
 
 abbrev pub refused : Refusal → outcome.Outcome
-refused (Words None) = outcome.WordsRefused (codes "words\n")
-refused (Words (Some text)) = outcome.WordsRefused (string_bytes text)
+refused (Words opening subject ending) = outcome.WordsRefused (opening.now ++ (subject.now ++ ending.now))
+refused (Reader text) = outcome.WordsRefused (string_bytes text)
 refused InstanceTooLong = outcome.Refused outcome.InstanceTooLong
 refused (Instance line cause) = outcome.Refused (outcome.InstanceRefused line cause)
 refused (CertText at cause) = outcome.Refused (outcome.CertUnread at cause)

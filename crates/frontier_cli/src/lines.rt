@@ -1,6 +1,6 @@
 //! The lines of the error stream, written piece by piece, so that they take no memory of the program's own.
 
-ghost use Rattle.std.specs.Prelude.{◌≡◌, ◌≤◌, ◌∷◌, [], OnOk, IsErrOf, codes, decimal};
+ghost use Rattle.std.specs.Prelude.{◌≡◌, ◌≤◌, ◌∷◌, ◌++◌, [], OnOk, IsErrOf, codes, decimal};
 ghost use Rattle.std.specs.List.{concat, flat_map};
 ghost use Rattle.edge_core.specs.Faults.{Rose};
 ghost use Rattle.edge_core.specs.Sink.{Gains, GainsFront};
@@ -260,6 +260,23 @@ fn whole_line<'a>(text: &'a str) -> [Piece<'a>; 9]
     ]
 }
 
+/// A line of three texts.
+fn words_line<'a>(opening: &'a str, subject: &'a str, ending: &'a str) -> [Piece<'a>; 9]
+    ensures { flat_map piece_text result ≡ opening.entry.now ++ (subject.entry.now ++ ending.entry.now) }
+{
+    [
+        Piece::Text(opening),
+        Piece::Text(subject),
+        Piece::Text(ending),
+        Piece::Text(NOTHING),
+        Piece::Text(NOTHING),
+        Piece::Text(NOTHING),
+        Piece::Text(NOTHING),
+        Piece::Text(NOTHING),
+        Piece::Text(NOTHING),
+    ]
+}
+
 fn instance_line<'a>(line: u64, cause: FileCause) -> [Piece<'a>; 9]
     ensures { flat_map piece_text result ≡ instance_line line cause }
 {
@@ -313,8 +330,17 @@ fn line_pieces<'a>(refusal: &'a Refusal<'_>) -> [Piece<'a>; 9]
     ensures { flat_map piece_text result ≡ line_of (refused refusal.entry.now) }
 {
     match refusal {
-        Refusal::Words(None) => whole_line("words\n"),
-        Refusal::Words(Some(text)) => whole_line(text.as_str()),
+        Refusal::Words {
+            opening,
+            subject,
+            ending,
+        } => {
+            let (opening, subject, ending): (&'a str, &'a str, &'a str) = (
+                opening, subject, ending,
+            );
+            words_line(opening, subject, ending)
+        }
+        Refusal::Reader(text) => whole_line(text.as_str()),
         Refusal::InstanceTooLong => whole_line("instance: too long\n"),
         Refusal::Instance { line, cause } => instance_line(*line, *cause),
         Refusal::CertText { at, cause } => text_line(*at, *cause),

@@ -5,6 +5,9 @@
 //! store and sinks, and carries every promise to users; `main` lends it the real ones.
 #![tactic(auto)]
 
+ghost use Rattle.std.specs.Prelude.{◌≡◌};
+ghost use Rattle.frontier_cli.specs.Unread.{status_without_words};
+
 mod lines;
 mod refusal;
 #[cfg(test)]
@@ -22,21 +25,23 @@ use std::env::{self, Args};
 use std::io::ErrorKind;
 use std::process::ExitCode;
 
-/// The statuses with which the program ends where it has no words.
-const REFUSED_WORDS: u8 = 2;
-
-const OUT_OF_MEMORY: u8 = 7;
+/// The status with which the program ends where it has no words: want of memory, or a word that isn't text.
+fn status_without_words(why: ErrorKind) -> u8
+    ensures { result ≡ status_without_words why }
+{
+    match why {
+        ErrorKind::OutOfMemory => 7,
+        _ => 2,
+    }
+}
 
 fn main(rt: HostRuntime) -> ExitCode {
     let args = match env::args(&rt) {
         Ok(args) => args,
-        Err(error) if error.kind() == ErrorKind::OutOfMemory => {
-            return ExitCode::from(OUT_OF_MEMORY);
-        }
-        Err(_) => return ExitCode::from(REFUSED_WORDS),
+        Err(error) => return ExitCode::from(status_without_words(error.kind())),
     };
     let Ok(words) = collect_words(rt.alloc(), args) else {
-        return ExitCode::from(OUT_OF_MEMORY);
+        return ExitCode::from(status_without_words(ErrorKind::OutOfMemory));
     };
     let mut store = FileStore::new(&rt, rt.alloc());
     let mut out = OutSink::new(rt.stdout());

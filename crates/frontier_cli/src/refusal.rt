@@ -14,11 +14,23 @@ use orienteering::CheckFail;
 /// Why a run prints nothing.
 #[derive(Drop)]
 pub(crate) enum Refusal<'a> {
-    /// The words, with the text of the option reader, if there is one.
-    Words(Option<String>),
+    /// The words; the three texts make the line that says why.
+    Words {
+        opening: &'a str,
+        subject: &'a str,
+        ending: &'a str,
+    },
+    /// The words, with the text of the option reader.
+    Reader(String),
     InstanceTooLong,
-    Instance { line: u64, cause: FileCause },
-    CertText { at: u64, cause: TextCause },
+    Instance {
+        line: u64,
+        cause: FileCause,
+    },
+    CertText {
+        at: u64,
+        cause: TextCause,
+    },
     Cert(CheckFail),
     /// The file of this name can't be read.
     Read(&'a str),
@@ -40,7 +52,7 @@ fn status(refusal: &Refusal<'_>) -> u8
 {
     match refusal {
         Refusal::CertText { .. } => 1,
-        Refusal::Words(_) => 2,
+        Refusal::Words { .. } | Refusal::Reader(_) => 2,
         Refusal::Instance { .. } => 4,
         Refusal::Read(_) => 5,
         Refusal::Write => 6,

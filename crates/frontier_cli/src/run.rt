@@ -3,7 +3,7 @@
 ghost use Rattle.std.specs.Prelude.{◌≡◌, ◌⊎◌, None, map, string_bytes, IfSome, IsSomeAnd};
 ghost use Rattle.command_line.specs.Requests.{request_in};
 ghost use Rattle.frontier_cli.specs.Expected.{Accepted};
-ghost use Rattle.frontier_cli.specs.Promises.{Certified, Comes, EndsSo, FilesStay, HeadlineOf, IsOfCause, IsPrinted, IsRefusedWith, PrintedFront, PutFailedOrAnswered, ReadFailed, TellsFront, TellsLine, WriteFailed};
+ghost use Rattle.frontier_cli.specs.Promises.{Certified, Closes, Comes, EndsSo, FilesStay, HeadlineOf, IsOfCause, IsPrinted, IsRefusedWith, MayEnd, NeedsNoFile, PrintedFront, PutFailedOrAnswered, ReadFailed, TellsFront, TellsLine, WriteFailed};
 ghost use Rattle.frontier_cli.specs.Ran.{Prints, Ran};
 
 use crate::refusal::{Refusal, tell};
@@ -52,11 +52,22 @@ pub fn run<R: Threads + Sync, S: Store, K: Sink, E: Sink>(
         (S.state store.old) (S.state store.new) (K.state out.old) (K.state out.new) }
     ensures answered { result ≡ 6 → PutFailedOrAnswered (request_in (map string_bytes words.now)) (S.state store.old) (S.state store.new) }
 
+    // What reads no file can't be refused by one, and a search whose budget suffices leaves no box.
+    ensures no_file { NeedsNoFile (request_in (map string_bytes words.now))
+        (S.state store.old) (S.state store.new) (K.state out.old) (K.state out.new) result }
+    ensures closes { Closes (request_in (map string_bytes words.now))
+        (S.state store.old) (S.state store.new) (K.state out.old) (K.state out.new) result }
+
     // What the streams get where no report is printed in full, and which files stay.
-    ensures not_printed { (IsPrinted result → ⊥) → PrintedFront (K.state out.old) (K.state out.new) }
+    ensures not_printed { (IsPrinted result → ⊥) → PrintedFront (request_in (map string_bytes words.now))
+        (S.state store.old) (S.state store.new) (K.state out.old) (K.state out.new) }
     ensures silent { IsPrinted result → E.state err.new ≡ E.state err.old }
-    ensures told { (IsPrinted result → ⊥) → (result ≡ 7 → ⊥) → TellsLine (E.state err.old) (E.state err.new) result }
-    ensures told_front { result ≡ 7 → TellsFront (E.state err.old) (E.state err.new) }
+    ensures told { (IsPrinted result → ⊥) → (result ≡ 7 → ⊥) → TellsLine
+        (MayEnd (request_in (map string_bytes words.now)) (S.state store.old) (S.state store.new) (K.state out.old) (K.state out.new))
+        (E.state err.old) (E.state err.new) result }
+    ensures told_front { result ≡ 7 → TellsFront
+        (MayEnd (request_in (map string_bytes words.now)) (S.state store.old) (S.state store.new) (K.state out.old) (K.state out.new))
+        (E.state err.old) (E.state err.new) }
     ensures files { FilesStay (request_in (map string_bytes words.now)) result (S.state store.old).files (S.state store.new).files }
 {
     laws_of_texts();

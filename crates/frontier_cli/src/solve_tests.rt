@@ -13,6 +13,11 @@ const GENERATED: &[(&str, &[&str], &str)] = &[
         "120 2\n50 50 0\n50 50 0\n94 16 7\n",
     ),
     (
+        "generated_files: top",
+        &["generate", "0", "2", "--format", "top"],
+        "n 4\nm 2\ntmax 60\n50 50 0\n94 16 7\n7 60 4\n50 50 0\n",
+    ),
+    (
         "generated_files: toptw",
         &["generate", "0", "1", "--format", "toptw"],
         "0 2 2 0\n0 0\n0 50 50 0 0 0 0 0 240\n1 94 16 10 7 0 0 37 97\n",
@@ -228,13 +233,14 @@ fn demo_of_one_call(rt: HostRuntime) -> Result<(), Fail> {
     Ok(())
 }
 
-/// A larger run ends the same way twice.
+/// A larger run ends the same way twice, with a status that fits its boxes.
 #[test]
 fn demo_of_twelve_calls_twice(rt: HostRuntime) -> Result<(), Fail> {
     let mut store = MemStore::new(rt.alloc());
     let (ended, first) = printed(&rt, rt.alloc(), &mut store, &["demo", "5", "12"])?;
     let (again, second) = printed(&rt, rt.alloc(), &mut store, &["demo", "5", "12"])?;
     assert_eq!(rt; ended, again);
+    assert_eq!(rt; ended, 0);
     assert!(rt; first.written().starts_with("calls 12\n".as_bytes()));
     assert!(rt; first.written() == second.written());
     Ok(())

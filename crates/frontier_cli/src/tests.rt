@@ -558,39 +558,53 @@ const WORDS: &[(&str, &[&str], u8, &str, &str)] = &[
         "read fault: d\n",
     ),
     (
+        "malformed instance before a missing certificate",
+        &["check", "bad.op", "d", "--format", "op", "--scale", "1"],
+        4,
+        "",
+        "instance: line 4: score\n",
+    ),
+    (
+        "no word",
+        &[],
+        2,
+        "",
+        "words: no command; the commands are check, solve, resume, generate and demo\n",
+    ),
+    (
         "refused_words_and_long_file: no certificate",
         &["check", "a.op", "--format", "op"],
         2,
         "",
-        "words\n",
+        "words: CERT is missing\n",
     ),
     (
         "refused_words_and_long_file: unknown command",
         &["chek", "a.op", "c1", "--format", "op"],
         2,
         "",
-        "unknown command: chek\n",
+        "words: unknown command chek; the commands are check, solve, resume, generate and demo\n",
     ),
     (
         "refused_words_and_long_file: unknown format",
         &["check", "a.op", "c1", "--format", "xyz"],
         2,
         "",
-        "words\n",
+        "words: --format takes op, top or toptw\n",
     ),
     (
         "too many calls of a demonstration",
         &["demo", "0", "301"],
         2,
         "",
-        "words\n",
+        "words: CALLS takes a number from 0 to 300\n",
     ),
     (
         "resume without a format",
         &["resume", "a.op", "c1", "--cert", "o"],
         2,
         "",
-        "words\n",
+        "words: --format is missing\n",
     ),
 ];
 
@@ -599,6 +613,7 @@ fn options_and_words(rt: HostRuntime) -> Result<(), Fail> {
     let alloc = rt.alloc();
     let mut store = store(alloc, TWO_CALLS.as_bytes(), &joined(alloc, HEAD, OPEN)?)?;
     store.put("c3", &joined(alloc, HEAD, CLOSED)?)?;
+    store.put("bad.op", "10 1\n0 0 0\n0 0 0\n3 0 10.5\n".as_bytes())?;
     for (name, texts, status, printed, told) in WORDS {
         let words = words(alloc, texts)?;
         let mut out = MemSink::new(alloc);
@@ -611,12 +626,28 @@ fn options_and_words(rt: HostRuntime) -> Result<(), Fail> {
     Ok(())
 }
 
-/// A file of the most bytes is read, its last line being blank, and one of one byte more is refused for its length.
+/// A file of the most bytes is read, its last line being blank. One of one byte more is refused for its length, also where
+/// the certificate is missing.
 #[test]
 fn refused_words_and_long_file(rt: HostRuntime) -> Result<(), Fail> {
     let alloc = rt.alloc();
-    let words = words(alloc, CHECK)?;
-    for (length, status, told) in [(16_777_216, 3, ""), (16_777_217, 9, "instance: too long\n")] {
+    for (length, certificate, status, told) in [
+        (16_777_216, "c1", 3, ""),
+        (16_777_217, "c1", 9, "instance: too long\n"),
+        (16_777_217, "d", 9, "instance: too long\n"),
+    ] {
+        let words = words(
+            alloc,
+            &[
+                "check",
+                "a.op",
+                certificate,
+                "--format",
+                "op",
+                "--scale",
+                "1",
+            ],
+        )?;
         let mut instance = Vec::from_slice(alloc, TWO_CALLS.as_bytes())?;
         instance.resize(length, b' ')?;
         let mut store = store(alloc, &instance, &joined(alloc, HEAD, OPEN)?)?;

@@ -1,12 +1,13 @@
 //! The work of the words, up to what is to be printed.
 
 ghost use Rattle.std.specs.Prelude.{◌≡◌, ◌≤◌, ◌++◌, Some, Ok, take, map, string_bytes, IfOk, IfErr, OnOk};
+ghost use Rattle.command_line.specs.Refusals.{cause_of};
 ghost use Rattle.command_line.specs.Limits.{AreSettingsWithin, IsBetween};
 ghost use Rattle.command_line.specs.Requests.{check_request, solve_request, resume_request, request_in, request_of, Check, Solve, Resume, IsDemoWithin, IsResumeWithin, IsSolveWithin, IsWithinLimits};
 ghost use Rattle.sweep_solver.specs.Solved.{IsAccepted};
 ghost use Rattle.cert_text.specs.Text.{cert_text, IsCert};
-ghost use Rattle.frontier_cli.specs.Files.{demo_settings, instance_in, IsReadAs};
-ghost use Rattle.frontier_cli.specs.Ran.{DeclinesWords, Declines, Demos, Does, Generates, IsContinuation, IsContinued, IsFound, IsSummary, IsTold, Judges, LooksAt, Puts, Reads, ReportsAll, Works, refused_by};
+ghost use Rattle.frontier_cli.specs.Files.{demo_instance, demo_settings, instance_in, IsReadAs};
+ghost use Rattle.frontier_cli.specs.Ran.{DeclinesWords, Declines, Demos, TellsCause, Does, Generates, IsContinuation, IsContinued, IsFound, IsSummary, IsTold, Judges, LooksAt, Puts, Reads, ReportsAll, Works, refused_by};
 ghost use Rattle.frontier_cli.specs.Outcome.{OutOfMemory};
 ghost use Rattle.frontier_cli.specs.Refusal.{bytes_of, outcome_of, refused, step_of};
 
@@ -19,7 +20,7 @@ use command_line::{
 use edge_core::{GetFail, PutFail, Store};
 use fixed_num::Scale;
 use instance_files::{FileFail, Format, read_instance};
-use instance_gen::generate;
+use instance_gen::{generate, laws_of_generated_files};
 use orienteering::CheckFail;
 use proof_check::{Accepted, check};
 use report_text::{Style, report, summary};
@@ -70,11 +71,22 @@ fn serve<'a, R: Threads + Sync, S: Store>(
     }
 }
 
-/// The refusal of words.
-fn declined<'a>(alloc: Global, refusal: WordsRefusal<'_>) -> Refusal<'a>
-    ensures { Declines (refused result) }
+/// The refusal of words: the option reader's own text where there is one, and else the line of their cause.
+fn declined<'a>(alloc: Global, refusal: WordsRefusal<'a>) -> Refusal<'a>
+    ensures declines { Declines (refused result) }
+    ensures told { TellsCause (cause_of refusal.entry) (refused result) }
 {
-    Refusal::Words(refusal.text(alloc))
+    match refusal.text(alloc) {
+        Some(text) => Refusal::Reader(text),
+        None => {
+            let line = refusal.line();
+            Refusal::Words {
+                opening: line.opening,
+                subject: line.subject,
+                ending: line.ending,
+            }
+        }
+    }
 }
 
 /// What the words ask for.
@@ -191,7 +203,7 @@ fn continue_certificate<R: Threads + Sync>(
 ) -> Result<Found, Refusal<'static>>
     requires workers { IsBetween 1 16 options.workers }
     requires accepted { IsAccepted inst.now options.labels old.now }
-    ensures continued { IfOk result (λ f. IsContinued inst.now options.labels options.nodes old.now f.cert f.accepted) }
+    ensures continued { IfOk result (λ f. IsContinued inst.now options.labels options.nodes options.seed old.now f.cert f.accepted) }
     ensures memory { IfErr result (λ refusal. refused refusal ≡ OutOfMemory) }
 {
     let Ok(cert) = resume(rt, alloc, inst, old, &options) else {
@@ -292,6 +304,24 @@ fn demo_settings(command: DemoCommand) -> Settings
     }
 }
 
+/// The instance that is generated for a demonstration. Its file is read without refusal, so only memory can be wanting.
+fn generated_instance(
+    alloc: Global,
+    command: DemoCommand,
+    settings: Settings,
+) -> Result<Instance, Refusal<'static>>
+    requires within { IsDemoWithin command }
+    requires settings { settings ≡ demo_settings command }
+    ensures found { IfOk result (λ inst. demo_instance command ≡ Ok inst) }
+    ensures memory { IfErr result (λ refusal. refused refusal ≡ OutOfMemory) }
+{
+    laws_of_generated_files();
+    let Ok(file) = generate(alloc, command.seed, command.calls, Format::Op) else {
+        return Err(Refusal::Memory);
+    };
+    instance_of(alloc, file.as_slice(), settings)
+}
+
 /// Generates an instance and solves it, and makes the summary.
 fn demonstrated<R: Threads + Sync>(
     rt: &R,
@@ -302,10 +332,7 @@ fn demonstrated<R: Threads + Sync>(
     ensures { Demos command (outcome_of result) }
 {
     let settings = demo_settings(command);
-    let Ok(file) = generate(alloc, command.seed, command.calls, Format::Op) else {
-        return Err(Refusal::Memory);
-    };
-    let inst = instance_of(alloc, file.as_slice(), settings)?;
+    let inst = generated_instance(alloc, command, settings)?;
     let options = Options {
         nodes: Some(DEMO_NODES),
         labels: settings.labels,
@@ -364,9 +391,9 @@ fn check_files<'a, R: Threads + Sync, S: Store>(
     requires { AreSettingsWithin command.settings }
     ensures { Does (Check (check_request command.entry)) (S.state store.old) (S.state store.new) (outcome_of result) }
 {
-    let inst = get_instance(alloc, store, command.instance, command.settings)?;
+    let instance = get_instance(alloc, store, command.instance, command.settings)?;
     let cert = get_cert(alloc, store, command.certificate)?;
-    checked(rt, alloc, &inst, &cert, command.settings)
+    checked(rt, alloc, &instance, &cert, command.settings)
 }
 
 /// Checks a certificate, and makes its report.
@@ -382,7 +409,7 @@ fn checked<R: Threads + Sync>(
 {
     match check(rt, alloc, inst, cert, settings.labels, settings.workers) {
         Ok(accepted) => reported(alloc, &accepted, settings),
-        Err(fail) => Err(cert_refusal(fail)),
+        Err(refusal) => Err(cert_refusal(refusal)),
     }
 }
 

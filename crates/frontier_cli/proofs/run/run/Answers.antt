@@ -1,5 +1,7 @@
 use Rattle.std.proofs.Common.{inl, inr}
 use Rattle.frontier_cli.proofs.Told as told
+use Rattle.frontier_cli.proofs.NoFile.{no_file_printed, no_file_told}
+use Rattle.frontier_cli.proofs.Budgets.{closes_ended, closes_told}
 use Rattle.frontier_cli.proofs.run.run.Goals as goal
 
 -- ---- a text is printed
@@ -32,16 +34,22 @@ pub returns-in-Ok-clause-write_fault : goal.returns-in-Ok-clause-write_fault
 returns-in-Ok-clause-write_fault g c = told.print_write_fault _ _ _ _ _ _ _ c.finish.ensures _ _ _
 
 pub returns-in-Ok-clause-not_printed : goal.returns-in-Ok-clause-not_printed
-returns-in-Ok-clause-not_printed g c = told.print_not_printed _ _ _ _ _ _ _ c.finish.ensures
+returns-in-Ok-clause-not_printed g c = told.print_not_printed _ _ _ _ _ _ _ c.finish.ensures _ _ _ c.in-Ok.ensures
+
+pub returns-in-Ok-clause-no_file : goal.returns-in-Ok-clause-no_file
+returns-in-Ok-clause-no_file g c = no_file_printed _ _ _ _ _ _ _ _ _ _ c.in-Ok.ensures c.finish.ensures
+
+pub returns-in-Ok-clause-closes : goal.returns-in-Ok-clause-closes
+returns-in-Ok-clause-closes g c = closes_ended c.laws_of_texts.ensures.one _ _ _ _ _ _ _ _ _ _ c.in-Ok.ensures c.finish.ensures
 
 pub returns-in-Ok-clause-silent : goal.returns-in-Ok-clause-silent
 returns-in-Ok-clause-silent g c = told.print_silent _ _ _ _ _ _ _ c.finish.ensures
 
 pub returns-in-Ok-clause-told : goal.returns-in-Ok-clause-told
-returns-in-Ok-clause-told g c = told.print_told _ _ _ _ _ _ _ c.finish.ensures
+returns-in-Ok-clause-told g c = told.print_told _ _ _ _ _ _ _ c.finish.ensures _ _ _
 
 pub returns-in-Ok-clause-told_front : goal.returns-in-Ok-clause-told_front
-returns-in-Ok-clause-told_front g c = told.prints-front _ _ _ _ _ _ _ c.finish.ensures
+returns-in-Ok-clause-told_front g c = told.prints-front _ _ _ _ _ _ _ _ _ _ c.finish.ensures
 
 pub returns-in-Ok-clause-files : goal.returns-in-Ok-clause-files
 returns-in-Ok-clause-files g c = told.files_stay_printed _ _ _ _ _ _ _ _ _ _ c.in-Ok.ensures c.finish.ensures
@@ -94,10 +102,26 @@ returns-in-Err-clause-silent g c =
     λ is. absurd (told.told_not_printed _ (told.refusal_is_plain c.in-Err.refusal) _ (told.tells-status _ _ _ _ c.tell.ensures) is)
 
 pub returns-in-Err-clause-told : goal.returns-in-Err-clause-told
-returns-in-Err-clause-told g c = λ _ not_7. told.tells-line _ _ _ _ not_7 c.tell.ensures
+returns-in-Err-clause-told g c =
+    let out = g.K.Sink.state c.args.out.now in
+    λ _ not_7. told.tells-line _ _ _ _ _ (told.may_end _ _ _ out out _ (told.refusal_is_plain c.in-Err.refusal) c.in-Err.ensures) not_7 c.tell.ensures
 
 pub returns-in-Err-clause-told_front : goal.returns-in-Err-clause-told_front
-returns-in-Err-clause-told_front g c = λ _. told.tells-front _ _ _ _ c.tell.ensures
+returns-in-Err-clause-told_front g c =
+    let out = g.K.Sink.state c.args.out.now in
+    λ _. told.tells-front _ _ _ _ _ (told.may_end _ _ _ out out _ (told.refusal_is_plain c.in-Err.refusal) c.in-Err.ensures) c.tell.ensures
+
+pub returns-in-Err-clause-no_file : goal.returns-in-Err-clause-no_file
+returns-in-Err-clause-no_file g c =
+    no_file_told _ _ _ (g.K.Sink.state c.args.out.now) _ _ (told.refusal_is_plain c.in-Err.refusal) c.in-Err.ensures
+    (told.tells-status _ _ _ _ c.tell.ensures)
+
+pub returns-in-Err-clause-closes : goal.returns-in-Err-clause-closes
+returns-in-Err-clause-closes g c =
+    let out = g.K.Sink.state c.args.out.now in
+    closes_told _ _ out out _ _
+    (told.always-told c.laws_of_texts.ensures.one _ _ out out _ _ _ _ _ (told.refusal_is_plain c.in-Err.refusal) c.in-Err.ensures c.tell.ensures)
+    (λ is. told.told_not_printed _ (told.refusal_is_plain c.in-Err.refusal) _ (told.tells-status _ _ _ _ c.tell.ensures) is)
 
 pub returns-in-Err-clause-files : goal.returns-in-Err-clause-files
 returns-in-Err-clause-files g c =

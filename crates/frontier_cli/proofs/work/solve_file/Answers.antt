@@ -2,7 +2,7 @@ use Rattle.std.proofs.Common.{sym, subst}
 use Rattle.std.proofs.lemmas.Result.{err_from_is_err_and}
 use Rattle.command_line.specs.Requests.{solve_request}
 use Rattle.frontier_cli.specs.Ran.{IsTold}
-use Rattle.frontier_cli.proofs.Solves.{ended_by_instance, ended_by_report}
+use Rattle.frontier_cli.proofs.Solves.{ended_by_instance, ended_by_put, ended_by_report}
 use Rattle.frontier_cli.proofs.Solutions.{solution}
 use Rattle.frontier_cli.proofs.work.solve_file.Goals as goal
 
@@ -10,6 +10,11 @@ pub returns-in_err-inst : goal.returns-in_err-inst
 returns-in_err-inst g c =
     let told = err_from_is_err_and c.from_residual.result c.from_residual.ensures.1 in
     rw (told.1, told.2) (ended_by_instance (solve_request c.args.command) _ _ _ c.in_err-inst.ensures)
+
+pub returns-in_err-put : goal.returns-in_err-put
+returns-in_err-put g c =
+    let told = err_from_is_err_and c.from_residual-in_err-put.result c.from_residual-in_err-put.ensures.1 in
+    rw (told.1, told.2) (ended_by_put (solve_request c.args.command) _ _ c.in_ok-inst.inst c.in_ok-inst.ensures _ c.as_slice.result.now _ c.in_err-put.ensures)
 
 pub returns : goal.returns
 returns g c =
