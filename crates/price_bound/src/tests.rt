@@ -151,8 +151,9 @@ fn bound_and_corner(
     let Some(area) = ctx.tight(inst) else {
         return Err("an empty region".into());
     };
-    let corner = i128::from(price.alpha) * i128::from(area.p_lo)
-        - i128::from(price.beta) * i128::from(area.t_hi);
+    let earned = i128::from(price.alpha) * i128::from(area.p_lo);
+    let paid = i128::from(price.beta) * i128::from(area.t_hi);
+    let corner = earned.saturating_sub(paid);
     Ok((bound(price, Some(i128::from(sigma)), ctx), corner))
 }
 
