@@ -100,31 +100,35 @@ fn splits_of_two_calls(rt: HostRuntime) -> Result<(), Fail> {
     Ok(())
 }
 
-/// What a context answers of the arc between two places: whether it is used, banned, shut, open and undecided.
-fn about_arc(context: &Context, i: u32, j: u32) -> [bool; 5]
-    requires from { i ≤ context.now.calls + 1 }
-    requires to { j ≤ context.now.calls + 1 }
+/// Whether two contexts answer the same of the arc between two places.
+fn same_arc(a: &Context, b: &Context, i: u32, j: u32) -> bool
+    requires same { a.now.calls ≡ b.now.calls }
+    requires from { i ≤ a.now.calls + 1 }
+    requires to { j ≤ a.now.calls + 1 }
 {
-    [
-        context.is_used(i, j),
-        context.is_banned(i, j),
-        context.is_shut(i, j),
-        context.is_open(i, j),
-        context.is_undecided(i, j),
-    ]
+    a.is_used(i, j) == b.is_used(i, j)
+        && a.is_banned(i, j) == b.is_banned(i, j)
+        && a.is_shut(i, j) == b.is_shut(i, j)
+        && a.is_open(i, j) == b.is_open(i, j)
+        && a.is_undecided(i, j) == b.is_undecided(i, j)
 }
 
-/// Whether two contexts answer the same of each arc and each call.
-fn same_arcs_and_calls(a: &Context, b: &Context) -> bool
+fn same_arcs(a: &Context, b: &Context) -> bool
     requires { a.now.calls ≡ b.now.calls }
 {
     for i in 0..a.calls() + 2 {
         for j in 0..a.calls() + 2 {
-            if about_arc(a, i, j) != about_arc(b, i, j) {
+            if !same_arc(a, b, i, j) {
                 return false;
             }
         }
     }
+    true
+}
+
+fn same_forced_calls(a: &Context, b: &Context) -> bool
+    requires { a.now.calls ≡ b.now.calls }
+{
     for call in 1..a.calls() + 1 {
         if a.forced(call) != b.forced(call) {
             return false;
@@ -133,46 +137,46 @@ fn same_arcs_and_calls(a: &Context, b: &Context) -> bool
     true
 }
 
+fn same_reasons(inst: &Instance, a: &Context, b: &Context) -> bool
+    requires first { a.now.calls ≡ calls inst.now }
+    requires second { b.now.calls ≡ calls inst.now }
+{
+    for (reason, _) in REASONS {
+        if a.stuck(inst, *reason) != b.stuck(inst, *reason) {
+            return false;
+        }
+    }
+    true
+}
+
+/// Whether two contexts of an instance give the same answers.
+fn same_answers(inst: &Instance, a: &Context, b: &Context) -> bool
+    requires first { a.now.calls ≡ calls inst.now }
+    requires second { b.now.calls ≡ calls inst.now }
+{
+    a.raw() == b.raw()
+        && a.counts() == b.counts()
+        && a.undecided() == b.undecided()
+        && a.tight(inst) == b.tight(inst)
+        && same_arcs(a, b)
+        && same_forced_calls(a, b)
+        && same_reasons(inst, a, b)
+}
+
 /// The root has six undecided arcs, and copies equal their sources.
 #[test]
 fn small_surface(rt: HostRuntime) -> Result<(), Fail> {
     let inst = two_calls(rt.alloc())?;
     let root = Context::root(rt.alloc(), &inst)?;
-    let same = root.copy()?;
-    assert_eq!(rt;
-        (root.raw(), same.raw()),
-        (area(0, 12, 0, 10), area(0, 12, 0, 10))
-    );
-    assert_eq!(rt; (root.counts(), same.counts()), ((0, 1), (0, 1)));
-    assert_eq!(rt; (root.calls(), same.calls()), (2, 2));
-    assert_eq!(rt; (root.undecided(), same.undecided()), (6, 6));
-    assert!(rt; same_arcs_and_calls(&root, &same));
-    assert_eq!(rt; same.tight(&inst), root.tight(&inst));
-    for (reason, _) in REASONS {
-        assert_eq!(rt;
-            same.stuck(&inst, *reason),
-            root.stuck(&inst, *reason),
-            "{reason:?}"
-        );
-    }
+    assert_eq!(rt; root.undecided(), 6);
+    assert!(rt; same_answers(&inst, &root, &root.copy()?));
     let limits = [Limit::Travels(0, 1), Limit::Avoids(1, 2), Limit::HasATour];
     let Ok(part) = region(rt.alloc(), &inst, &limits) else {
         return Err("no split".into());
     };
     let copy = part.copy()?;
-    assert_eq!(rt; copy.raw(), part.raw());
-    assert_eq!(rt; copy.counts(), (1, 1));
-    for i in 0..copy.calls() + 2 {
-        for j in 0..copy.calls() + 2 {
-            let expected = (i, j) == (0, 1);
-            assert_eq!(rt; copy.is_used(i, j), expected, "arc {i} {j}");
-            assert_eq!(rt;
-                copy.is_undecided(i, j),
-                part.is_undecided(i, j),
-                "arc {i} {j}"
-            );
-        }
-    }
+    assert!(rt; copy.calls() == 2 && copy.is_used(0, 1) && copy.is_banned(1, 2));
+    assert!(rt; same_answers(&inst, &part, &copy));
     Ok(())
 }
 
