@@ -11,7 +11,7 @@ use Rattle.std.proofs.lemmas.List.Elements.{All-nil, All-push, All-weaker}
 use Rattle.std.proofs.lemmas.Option.{none-some, same_Some, get_or_from_slice_get}
 use Rattle.label_core.specs.Worth.{most}
 use Rattle.label_engine.specs.Front.{State, IsFrontState}
-use Rattle.label_engine.specs.Settled.{state_of, IsSettled, IsFrontOf, HasMoreThan}
+use Rattle.label_engine.specs.Settled.{CoversFronts, state_of, IsFrontOf, HasMoreThan}
 use Rattle.label_engine.specs.Cut.{CutValue, cut_rules, cut_moves, IsBounded, Cut, IsCut, relaxed, IsBestOf}
 use Rattle.label_engine.specs.Greatest.{IsAtCall, value_of, IsBestAt, IsBest, better, IsWalkOf}
 use Rattle.label_engine.specs.declared.label.Label.{Label}
@@ -95,7 +95,7 @@ small_along p r step b i [] = omega arith
 small_along p r step b i (j ∷ js) =
     omega (arith, abs-add (step_value p r i j) (value_along p r j js), b.value i j, small_along p r step b j js, suc-mul (length js) step)
 
-module _ (c : Cut) (is : IsCut c) (labels : List (Label CutValue)) (settled : IsSettled cut_rules (cut_moves c.problem (relaxed c)) (calls c.problem) labels) where
+module _ (c : Cut) (is : IsCut c) (labels : List (Label CutValue)) (cover : CoversFronts cut_rules (cut_moves c.problem (relaxed c)) (calls c.problem) labels) where
   abbrev limits : IsBounded c.problem (relaxed c) most_step
   limits = bounded c.problem c.region c.price c.critical is.instance is.fit
 
@@ -106,7 +106,7 @@ module _ (c : Cut) (is : IsCut c) (labels : List (Label CutValue)) (settled : Is
   pub all_at_calls : All (IsAtCall c) labels
   all_at_calls k d within =
       let label = get_or labels k d in
-      let front = (settled.exact k d within).reached in
+      let front = cover.reached k d within in
       let q = relaxed_from_front c.problem (relaxed c) most_step limits (state_of label) front.0 front.1 in
       let sum_is = q.1.sum in
       let small = small_along c.problem (relaxed c) most_step limits 0 front.0 in
@@ -131,12 +131,12 @@ module _ (c : Cut) (is : IsCut c) (labels : List (Label CutValue)) (settled : Is
   pub best_is_sigma : (best : Option Closed) → IsBest c labels best → option_map (λ (b : Closed). b.value) best ≡ seen.sigma c.problem (relaxed c)
   best_is_sigma best h =
       sigma_is_the_only c.problem (relaxed c) (option_map (λ (b : Closed). b.value) best)
-      (sigma c.problem (relaxed c) most_step limits labels settled (option_map (λ (b : Closed). b.value) best) (best_of best h))
+      (sigma c.problem (relaxed c) most_step limits labels cover (option_map (λ (b : Closed). b.value) best) (best_of best h))
 
   pub best_has_walk : (b : Closed) → IsBestAt c labels b → (front : List ℕ) → IsFrontOf cut_rules (cut_moves c.problem (relaxed c)) labels b.place front → IsWalkOf c.problem (relaxed c) b.value front
   best_has_walk b h front f =
       let here : get_or labels b.place f.label ≡ f.label = get_or_from_slice_get labels b.place f.label f.label f.stands in
-      let few = (at_call (state_of (get_or labels b.place f.label)) (settled.exact b.place f.label h.within).reached).few in
+      let few = (at_call (state_of (get_or labels b.place f.label)) (cover.reached b.place f.label h.within)).few in
       let short : f.label.hops ≤ calls c.problem = subst (λ (l : Label CutValue). l.hops ≤ calls c.problem) here few in
       let q = relaxed_from_front c.problem (relaxed c) most_step limits (state_of f.label) front
       (record { short = omega (arith, f.front_is.short, short); calls = f.front_is.calls; state = f.front_is.state }) in

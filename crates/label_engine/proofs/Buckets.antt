@@ -11,13 +11,13 @@ use Rattle.label_core.specs.Resource.{Rules, Laws}
 use Rattle.label_engine.specs.Front.{MoveRules, State, IsCallOf, GivesFitting, begun, moved}
 use Rattle.label_engine.specs.Settled.{Covered, state_of, IsExtended}
 use Rattle.label_engine.specs.Offer.{labelled, stepped_label, label_covers, is_better, beats, offered, taken}
-use Rattle.label_engine.specs.Layer.{Apart, IsLastLayer, IsReached, Whole, IsNew, IsNewAt, Growing, Bucket}
+use Rattle.label_engine.specs.Layer.{Apart, IsLastLayer, IsReached, Covering, Whole, IsNew, IsNewAt, Grown, Bucket}
 use Rattle.label_engine.specs.Rivals.{AreRivals}
 use Rattle.label_engine.specs.declared.label.Label.{Label}
 use Rattle.label_engine.proofs.Covering.{mapped, move_parts, cover_parts, covers_reflexive, covers_transitive}
 use Rattle.label_engine.proofs.Fronts.{front_longer, Bounded, bounded}
 use Rattle.label_engine.proofs.Kept.{list_any_agrees, filter_agrees, Contains-filter, offered-cases, All-offered, apart-offered, offered-behind}
-use Rattle.label_engine.proofs.Layers.{reached_fits, growing_reached}
+use Rattle.label_engine.proofs.Layers.{reached_fits, grown_reached}
 use Rattle.label_engine.proofs.Rivals.{rivals_cover}
 
 -- there is none, or there is one
@@ -98,12 +98,11 @@ module _ {R S : Type 0} (rules : Rules R S) where
           covers = covers_reflexive rules laws (state_of c) (reached_fits rules moves laws fitting hops c new);
         })
 
-    pub bucket_growing : (hops start : ℕ) (old bucket : List (Label R)) (to place : ℕ) → Bucket rules moves Fits hops start old bucket to place → Growing rules moves hops old (old ++ bucket)
-    bucket_growing hops start old bucket to place b = record {
+    bucket_grown : (hops start : ℕ) (old bucket : List (Label R)) (to place : ℕ) → Bucket rules moves Fits hops start old bucket to place → Grown rules moves hops old (old ++ bucket)
+    bucket_grown hops start old bucket to place b = record {
       layer = bucket;
       joined = refl;
       new = All-weaker (IsNewAt rules moves hops old to) (IsNew rules moves hops old) (λ k n. n.new) bucket b.new;
-      apart = b.apart;
     }
 
     -- nothing was made yet
@@ -131,25 +130,25 @@ module _ {R S : Type 0} (rules : Rules R S) where
     }
 
     -- the labels from the last layer on have so many calls
-    last_hops : (hops start : ℕ) (old : List (Label R)) (place : ℕ) (d : Label R) → IsLastLayer hops start old → start ≤ place → place < length old → hops ≡ (get_or old place d).hops
+    pub last_hops : (hops start : ℕ) (old : List (Label R)) (place : ℕ) (d : Label R) → IsLastLayer hops start old → start ≤ place → place < length old → hops ≡ (get_or old place d).hops
     last_hops hops start old place d layer low high =
         let here = layer.layer (place - start) d (omega (arith, length-drop start old)) in
         let place_is : start + (place - start) ≡ place = omega arith in
         sym here ∙ ap (λ l. l.hops) (get_or-drop start old (place - start) d ∙ ap (λ k. get_or old k d) place_is)
 
     -- the label that is extended is at a call, and has so many calls
-    pub from_known : (hops : ℕ) (old : List (Label R)) (place : ℕ) (from : Label R) → Whole rules moves hops old → place < length old → from ≡ get_or old place from → Bounded rules moves laws fitting hops (state_of from)
-    from_known hops old place from whole within is =
-        bounded rules moves laws fitting hops (state_of from) (subst (IsReached rules moves hops) (sym is) (whole.reached place from within)).front
+    pub from_known : (hops : ℕ) (old : List (Label R)) (place : ℕ) (from : Label R) → Covering rules moves hops old → place < length old → from ≡ get_or old place from → Bounded rules moves laws fitting hops (state_of from)
+    from_known hops old place from covering within is =
+        bounded rules moves laws fitting hops (state_of from) (subst (IsReached rules moves hops) (sym is) (covering.reached place from within)).front
 
     -- the label of a move
-    moved_is_new : (hops place to : ℕ) (old : List (Label R)) (from label : Label R) → Whole rules moves hops old → from.hops ≡ hops → place < length old → from ≡ get_or old place from → IsCallOf moves to → stepped_label rules from place (moves.step from.call to) to ≡ Some label → IsNewAt rules moves hops old to label × (moved rules moves (state_of from) to ≡ Some (state_of label))
-    moved_is_new hops place to old from label whole last within is is_call e =
+    pub moved_is_new : (hops place to : ℕ) (old : List (Label R)) (from label : Label R) → All (IsReached rules moves hops) old → from.hops ≡ hops → place < length old → from ≡ get_or old place from → IsCallOf moves to → stepped_label rules from place (moves.step from.call to) to ≡ Some label → IsNewAt rules moves hops old to label × (moved rules moves (state_of from) to ≡ Some (state_of label))
+    moved_is_new hops place to old from label all_reached last within is is_call e =
         let m = mapped (labelled (Some place)) (moved rules moves (state_of from) to) label e in
         let state : m.value ≡ state_of label = ap state_of m.gives in
         let moves_on : moved rules moves (state_of from) to ≡ Some (state_of label) = m.is ∙ ap (λ s. Some s) state in
         let parts = move_parts rules moves (state_of from) to (state_of label) moves_on in
-        let reached : IsReached rules moves hops from = subst (IsReached rules moves hops) (sym is) (whole.reached place from within) in
+        let reached : IsReached rules moves hops from = subst (IsReached rules moves hops) (sym is) (all_reached place from within) in
         let stands : slice_get old place ≡ Some from = slice_get-get_or old place from within ∙ ap (λ l. Some l) (sym is) in (
           record {
             new = record {
@@ -165,14 +164,14 @@ module _ {R S : Type 0} (rules : Rules R S) where
 
     bucket_offered : (hops start : ℕ) (old bucket : List (Label R)) (rivals : List R) (to place : ℕ) (from label : Label R) → Whole rules moves hops old → Bucket rules moves Fits hops start old bucket to place → AreRivals rules old to rivals → place < length old → from ≡ get_or old place from → IsNewAt rules moves hops old to label → moved rules moves (state_of from) to ≡ Some (state_of label) → Bucket rules moves Fits hops start old (taken rules rivals bucket (Some label)) to (place + 1)
     bucket_offered hops start old bucket rivals to place from label whole b rivalled within is new moves_on =
-        let all_reached = growing_reached rules moves laws fitting hops old (old ++ bucket) whole (bucket_growing hops start old bucket to place b) in
+        let all_reached = grown_reached rules moves laws fitting hops old (old ++ bucket) whole.covering (bucket_grown hops start old bucket to place b) in
         let reached : IsReached rules moves (hops + 1) label = record { front = new.new.front; few = omega (arith, new.new.hops_is) } in
         let fits = reached_fits rules moves laws fitting (hops + 1) label reached in
-        let old_fit : All (λ k. Fits k.state) old = All-weaker (IsReached rules moves hops) (λ k. Fits k.state) (reached_fits rules moves laws fitting hops) old whole.reached in
-        let few : All (λ k. k.hops ≤ label.hops) old = All-weaker (IsReached rules moves hops) (λ k. k.hops ≤ label.hops) (λ k r. omega (arith, r.few, new.new.hops_is)) old whole.reached in
+        let old_fit : All (λ k. Fits k.state) old = All-weaker (IsReached rules moves hops) (λ k. Fits k.state) (reached_fits rules moves laws fitting hops) old whole.covering.reached in
+        let few : All (λ k. k.hops ≤ label.hops) old = All-weaker (IsReached rules moves hops) (λ k. k.hops ≤ label.hops) (λ k r. omega (arith, r.few, new.new.hops_is)) old whole.covering.reached in
         let spared : All (λ k. label_covers rules label k ≡ false) old =
         All-weaker (IsReached rules moves hops) (λ k. label_covers rules label k ≡ false)
-        (λ k r. false_from_ne_true _ (λ e. let p = cover_parts rules (state_of label) (state_of k) e in omega (arith, p.hops, r.few, new.new.hops_is))) old whole.reached in
+        (λ k r. false_from_ne_true _ (λ e. let p = cover_parts rules (state_of label) (state_of k) e in omega (arith, p.hops, r.few, new.new.hops_is))) old whole.covering.reached in
         let over : All (λ k. label_covers rules k label ≡ is_better rules k label) bucket =
         All-weaker (IsNewAt rules moves hops old to) (λ k. label_covers rules k label ≡ is_better rules k label) (λ k n. same_kind k label (n.at ∙ sym new.at) (n.new.hops_is ∙ sym new.new.hops_is)) bucket b.new in
         let under : All (λ k. label_covers rules label k ≡ is_better rules label k) bucket =
@@ -203,6 +202,6 @@ module _ {R S : Type 0} (rules : Rules R S) where
         ⊎_elim
         (λ none. subst P (sym none) (bucket_skipped hops start old bucket to place from b high is (option_map-none (labelled (Some place)) (moved rules moves (state_of from) to) none)))
         (λ some.
-        let new = moved_is_new hops place to old from some.0 whole last high is is_call some.1 in
+        let new = moved_is_new hops place to old from some.0 whole.covering.reached last high is is_call some.1 in
         subst P (sym some.1) (bucket_offered hops start old bucket rivals to place from some.0 whole b rivalled high is new.0 new.1))
         (found_cases (stepped_label rules from place (moves.step from.call to) to))

@@ -17,7 +17,7 @@ use Rattle.label_core.specs.WorthLaws.{worth_laws}
 use Rattle.label_core.specs.Pair.{FitsBoth, FitsBothSteps}
 use Rattle.label_core.specs.PairLaws.{pair_laws}
 use Rattle.label_engine.specs.Front.{GivesFitting}
-use Rattle.label_engine.specs.Settled.{IsSettled, IsFrontOf, HasMoreThan}
+use Rattle.label_engine.specs.Settled.{CoversFronts, IsFrontOf, HasMoreThan}
 use Rattle.label_engine.specs.Cut.{CutValue, CutStep, Cut, IsCut, IsVisit, relaxed, cut_rules, cut_step, step_between, at_start, cut_moves, flag_of, marked, flagged_between, flagged_moves}
 use Rattle.label_engine.specs.Greatest.{IsAtCall, value_of, IsBestAt, IsBest, IsWalkOf, AreVisits}
 use Rattle.label_engine.specs.Renaming.{IsRenaming, renamed, carried, stepped, name_at}
@@ -28,7 +28,7 @@ use Rattle.label_engine.proofs.Best.{all_at_calls, best_is_sigma, best_has_walk,
 use Rattle.label_engine.proofs.Covering.{through, mapped}
 use Rattle.label_engine.proofs.CutLimits.{between_fits, start_fits}
 use Rattle.label_engine.proofs.Names.{name_at_rises, position-name_at, extended-carried, leq-carried, carried_one_to_one}
-use Rattle.label_engine.proofs.Renaming.{settled_renamed, more_renamed, more_named, front_renamed}
+use Rattle.label_engine.proofs.Renaming.{covers_renamed, more_renamed, more_named, front_renamed}
 use Rattle.orienteering.specs.Instance.{calls, IsCall}
 use Rattle.orienteering.specs.Sigma as seen
 
@@ -144,12 +144,12 @@ module _ (c : Cut) (is : IsCut c) where
 
   -- ---- the best of the settled labels
 
-  module _ (labels : List (Label CutValue)) (settled : IsSettled cut_rules (flagged_moves c) (calls c.problem) labels) where
+  module _ (labels : List (Label CutValue)) (cover : CoversFronts cut_rules (flagged_moves c) (calls c.problem) labels) where
     abbrev named : List (Label CutValue)
     named = map (renamed (carried names)) labels
 
-    named_settled : IsSettled cut_rules (cut_moves c.problem (relaxed c)) (calls c.problem) named
-    named_settled = settled_renamed cut_rules (flagged_moves c) cut_rules (cut_moves c.problem (relaxed c)) (carried names) (stepped names) flags_rename (calls c.problem) labels settled
+    named_covers : CoversFronts cut_rules (cut_moves c.problem (relaxed c)) (calls c.problem) named
+    named_covers = covers_renamed cut_rules (flagged_moves c) cut_rules (cut_moves c.problem (relaxed c)) (carried names) (stepped names) flags_rename (calls c.problem) labels cover
 
     pub flagged_at_calls : All (IsAtCall c) labels
     flagged_at_calls k d within =
@@ -157,7 +157,7 @@ module _ (c : Cut) (is : IsCut c) where
         let named_label = renamed (carried names) (get_or labels k d) in
         let at : IsAtCall c named_label =
         subst (IsAtCall c) (get_or-map (renamed (carried names)) labels k d (renamed (carried names) d) within)
-        (all_at_calls c is named named_settled k (renamed (carried names) d) long) in
+        (all_at_calls c is named named_covers k (renamed (carried names) d) long) in
         record { call = at.call; sum = at.sum }
 
     best_at_named : (b : Closed) → IsBestAt c labels b → IsBestAt c named b
@@ -173,9 +173,9 @@ module _ (c : Cut) (is : IsCut c) where
     best_named (Some b) h = best_at_named b h
 
     pub flagged_best_is_sigma : (best : Option Closed) → IsBest c labels best → option_map (λ (b : Closed). b.value) best ≡ seen.sigma c.problem (relaxed c)
-    flagged_best_is_sigma best h = best_is_sigma c is named named_settled best (best_named best h)
+    flagged_best_is_sigma best h = best_is_sigma c is named named_covers best (best_named best h)
 
     pub flagged_best_has_walk : (b : Closed) → IsBestAt c labels b → (front : List ℕ) → IsFrontOf cut_rules (flagged_moves c) labels b.place front → IsWalkOf c.problem (relaxed c) b.value front
     flagged_best_has_walk b h front f =
-        best_has_walk c is named named_settled b (best_at_named b h) front
+        best_has_walk c is named named_covers b (best_at_named b h) front
         (front_renamed cut_rules (flagged_moves c) cut_rules (cut_moves c.problem (relaxed c)) (carried names) (stepped names) flags_rename labels b.place front f)

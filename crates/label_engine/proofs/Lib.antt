@@ -17,3 +17,4 @@ pub mod WalkLimits
 pub mod Renaming
 pub mod Names
 pub mod Flagged
+pub mod RowLayers

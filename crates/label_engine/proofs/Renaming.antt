@@ -1,4 +1,4 @@
--- A renaming of what walks carry keeps the settled labels settled, and there are as many uncovered states.
+-- A renaming of what walks carry keeps what labels cover, and there are as many uncovered states.
 use Rattle.std.proofs.Common.{◌≡◌, ◌≢◌, ℕ, suc, ◌+◌, ◌<◌, ◌≤◌, true, ◌&&◌, nat_eq, nat_le, List, [], ◌∷◌, length, map, get_or, Option, None, Some, refl, sym, ap, ◌∙◌, subst, arith, All, AllPairs, Contains}
 use Rattle.std.specs.Option.{option_and_then, option_map, MatchOption}
 use Rattle.std.proofs.lemmas.List.{get_or-map, length-map}
@@ -7,7 +7,7 @@ use Rattle.std.proofs.lemmas.Option.{slice_get-map}
 use Rattle.orienteering.proofs.Lists.{AllByRecursion-weaker}
 use Rattle.label_core.specs.Resource.{Rules}
 use Rattle.label_engine.specs.Front.{MoveRules, State, IsCallOf, begun, moved, covers, state_after, front_state, IsFront, IsFrontState, IsUncovered}
-use Rattle.label_engine.specs.Settled.{state_of, IsExtended, HasParent, Covered, IsSettled, HasMoreThan, IsFrontOf}
+use Rattle.label_engine.specs.Settled.{CoversFronts, state_of, IsExtended, HasParent, Covered, HasMoreThan, IsFrontOf}
 use Rattle.label_engine.specs.Renaming.{IsRenaming, renamed}
 use Rattle.label_engine.specs.declared.label.Label.{Label}
 use Rattle.label_engine.proofs.Covering.{mapped}
@@ -164,24 +164,16 @@ module _ {R S R' S' : Type 0} (rules : Rules R S) (moves : MoveRules R S) (rules
       (IsExtended rules moves labels label) (IsExtended rules' moves' (map (renamed value) labels) (renamed value label))
       (λ e. begun-name label.call ∙ ap (option_map name) e) (extended_renamed labels label) h
 
-  pub settled_renamed : (hops : ℕ) (labels : List (Label R)) → IsSettled rules moves hops labels → IsSettled rules' moves' hops (map (renamed value) labels)
-  settled_renamed hops labels s =
+  pub covers_renamed : (hops : ℕ) (labels : List (Label R)) → CoversFronts rules moves hops labels → CoversFronts rules' moves' hops (map (renamed value) labels)
+  covers_renamed hops labels e =
       record {
-        exact = All-map (λ l. IsUncovered rules' moves' hops (state_of l)) (renamed value) labels
-            (All-weaker (λ l. IsUncovered rules moves hops (state_of l)) (λ l. IsUncovered rules' moves' hops (name (state_of l))) (λ l. uncovered_name hops (state_of l)) labels s.exact);
+        reached = All-map (λ l. IsFrontState rules' moves' hops (state_of l)) (renamed value) labels
+            (All-weaker (λ l. IsFrontState rules moves hops (state_of l)) (λ l. IsFrontState rules' moves' hops (name (state_of l))) (λ l. state_name hops (state_of l)) labels e.reached);
         covering = λ t f.
             let n = from_name hops t f in
-            subst (Covered rules' moves' (map (renamed value) labels)) n.names (covered_name labels n.state (s.covering n.state n.reached));
-        complete = λ t u.
-            let n = from_name hops t u.reached in
-            let held = s.complete n.state (named_uncovered hops n.state (subst (IsUncovered rules' moves' hops) (sym n.names) u)) in
-            subst (Contains (map state_of (map (renamed value) labels))) n.names
-            (subst (λ ss. Contains ss (name n.state)) (states-renamed labels) (Contains-map name (map state_of labels) n.state held));
-        once = AllPairs-map (λ a b. state_of a ≢ state_of b) (renamed value) labels
-            (λ i j d below within e. s.once i j d below within (name_one_to_one (state_of (get_or labels i d)) (state_of (get_or labels j d)) e));
-        rising = AllPairs-map (λ a b. a.hops ≤ b.hops) (renamed value) labels s.rising;
+            subst (Covered rules' moves' (map (renamed value) labels)) n.names (covered_name labels n.state (e.covering n.state n.reached));
         parents = All-map (HasParent rules' moves' (map (renamed value) labels)) (renamed value) labels
-            (All-weaker (HasParent rules moves labels) (λ l. HasParent rules' moves' (map (renamed value) labels) (renamed value l)) (parent_renamed labels) labels s.parents);
+            (All-weaker (HasParent rules moves labels) (λ l. HasParent rules' moves' (map (renamed value) labels) (renamed value l)) (parent_renamed labels) labels e.parents);
       }
 
   -- ---- how many uncovered states there are

@@ -28,7 +28,7 @@ some_at (x ∷ xs) zero within = (x, refl)
 some_at (x ∷ xs) (suc k) within = some_at xs k (omega arith)
 
 module _ {R S : Type 0} (rules : Rules R S) where
-  stands_longer : (labels more : List (Label R)) (call : ℕ) (rival : R) → StandsFor labels call rival → StandsFor (labels ++ more) call rival
+  pub stands_longer : (labels more : List (Label R)) (call : ℕ) (rival : R) → StandsFor labels call rival → StandsFor (labels ++ more) call rival
   stands_longer labels more call rival s = record {
     label = s.label;
     held = Contains-append_left labels more s.label s.held;

@@ -1,4 +1,4 @@
--- The best of the settled labels that can close is the greatest value of a relaxed walk.
+-- Of labels that cover all fronts, the best that can close is the greatest value of a relaxed walk.
 use Rattle.std.proofs.Common.{◌≡◌, ℕ, ◌+◌, ◌*◌, ◌≤◌, max, Bool, true, false, cond, leb, List, [], ◌∷◌, ◌++◌, Option, None, Some, refl, sym, ap, ◌∙◌, subst, arith, ℤ, pos, ◌+ℤ◌, ◌-ℤ◌, ◌≤ℤ◌}
 use Rattle.std.specs.Prelude.{int_le}
 use Rattle.std.specs.List.{Contains}
@@ -7,8 +7,8 @@ use Rattle.std.proofs.lemmas.Bool.{cond-true, cond-false, leb-true, le-leb, and_
 use Rattle.std.proofs.lemmas.Int.{ints}
 use Rattle.std.proofs.lemmas.List.Elements.{All-contains}
 use Rattle.std.proofs.lemmas.Option.{none-some, cond_some}
-use Rattle.label_engine.specs.Front.{State, covers, IsUncovered}
-use Rattle.label_engine.specs.Settled.{state_of, IsSettled}
+use Rattle.label_engine.specs.Front.{State, covers, IsFrontState}
+use Rattle.label_engine.specs.Settled.{CoversFronts, state_of}
 use Rattle.label_engine.specs.Cut.{CutValue, cut_rules, cut_moves, IsBounded, closed_value, IsBestOf}
 use Rattle.label_engine.specs.declared.label.Label.{Label}
 use Rattle.label_engine.proofs.Covering.{cover_parts, mapped}
@@ -126,7 +126,7 @@ module _ (p : Problem) (r : Relaxation) where
         sym (ends_with walk s a) ∙ k.value,
       )
 
-  module _ (step : ℕ) (bounded : IsBounded p r step) (labels : List (Label CutValue)) (settled : IsSettled cut_rules (cut_moves p r) (calls p) labels) where
+  module _ (step : ℕ) (bounded : IsBounded p r step) (labels : List (Label CutValue)) (cover : CoversFronts cut_rules (cut_moves p r) (calls p) labels) where
     -- some label that can close has at least the value of a walk
     record Matched (walk : List ℕ) : Type 0 where
       label : Label CutValue
@@ -138,7 +138,7 @@ module _ (p : Problem) (r : Relaxation) where
     matched : (walk : List ℕ) → IsRelaxedWalk p r walk → Matched walk
     matched walk w =
         let q = front_from_relaxed p r step bounded walk w.front in
-        let c = settled.covering q.0 q.1 in
+        let c = cover.covering q.0 q.1 in
         let k = closes_too (state_of c.kept) q.0 (walk_value p r walk) c.covers (walk_closes walk q.0 w q.2) in
         record { label = c.kept; held = c.held; value = k.value; closed = k.closed; more = k.more }
 
@@ -150,7 +150,7 @@ module _ (p : Problem) (r : Relaxation) where
     sigma (Some v) best =
         let any = best.reached in
         let label = any.1 in
-        let front = (All-contains (λ l. IsUncovered cut_rules (cut_moves p r) (calls p) (state_of l)) labels label settled.exact (any.0, any.2, any.3)).reached in
+        let front = All-contains (λ l. IsFrontState cut_rules (cut_moves p r) (calls p) (state_of l)) labels label cover.reached (any.0, any.2, any.3) in
         let q = relaxed_from_front p r step bounded (state_of label) front.0 front.1 in
         let w = closed_walk front.0 (state_of label) v q.0 q.1 any.4 in
         record {

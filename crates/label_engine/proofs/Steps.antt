@@ -16,7 +16,7 @@ use Rattle.label_engine.specs.Rivals.{StandsFor, AreRivals}
 use Rattle.label_engine.specs.declared.label.Label.{Label}
 use Rattle.label_engine.proofs.Covering.{mapped, move_parts, cover_parts, covers_reflexive}
 use Rattle.label_engine.proofs.Fronts.{front_begun, front_end, front_within, bounded}
-use Rattle.label_engine.proofs.Layers.{growing_none, growing_reached, reached_fits, covered_old, BeginningsCovered, longer_covered, uncovered_at, more_uncovered, whole_none, whole_next}
+use Rattle.label_engine.proofs.Layers.{growing_none, grown_reached, reached_fits, covered_old, BeginningsCovered, begins_covered, longer_covered, tried_from, covering_grown, covering_next, uncovered_at, more_uncovered, whole_none, whole_next}
 use Rattle.label_engine.proofs.Buckets.{found_cases, option_map-none}
 
 -- pairs of a list with a layer and with a bucket, and of the layer with the bucket
@@ -116,11 +116,14 @@ module _ {R S : Type 0} (rules : Rules R S) (moves : MoveRules R S) where
     first_added labels call label first is_call e =
         let new = begun_is_new call label is_call e in
         let growing = first.growing in
+        let grown = growing.grown in
         record {
           growing = record {
-            layer = growing.layer ++ label ∷ [];
-            joined = ap (λ l. l ++ label ∷ []) growing.joined;
-            new = All-push (IsNew rules moves 0 []) growing.layer label growing.new new.0.new;
+            grown = record {
+              layer = grown.layer ++ label ∷ [];
+              joined = ap (λ l. l ++ label ∷ []) grown.joined;
+              new = All-push (IsNew rules moves 0 []) grown.layer label grown.new new.0.new;
+            };
             apart = all_pairs_push (Apart (label_covers rules)) labels label growing.apart (λ k d within. other_calls (get_or labels k d) label (λ same. omega (arith, first.below k d within, new.0.at)));
           };
           below = All-push (λ l. l.call < call + 1) labels label (All-weaker (λ l. l.call < call) (λ l. l.call < call + 1) (λ l h. omega arith) labels first.below) (omega (arith, new.0.at));
@@ -168,14 +171,15 @@ module _ {R S : Type 0} (rules : Rules R S) (moves : MoveRules R S) where
 
     pub first_whole : (labels : List (Label R)) (call : ℕ) → FirstLayer rules moves Fits labels call → moves.calls < call → Whole rules moves 1 labels × IsLastLayer 1 0 labels
     first_whole labels call first past =
-        let growing = first.growing in
+        let grown = first.growing.grown in
+        let none = whole_none rules moves laws fitting in
         let begins : BeginningsCovered rules moves labels = record {
           covered = λ t b. (first.tried b.call b.is_call.low (omega (arith, b.is_call.high))).covered t (bounded rules moves laws fitting 1 t (front_begun rules moves b.call t b.is_call b.begins)).fits b.begins;
         } in (
-          whole_next rules moves laws fitting 0 [] labels (whole_none rules moves laws fitting) growing begins (λ from to held. absurd (omega (arith, held.1))),
+          whole_next rules moves laws fitting 0 [] labels none first.growing (covering_grown rules moves laws fitting 0 [] labels none.covering grown begins (λ from to held. absurd (omega (arith, held.1)))),
           record {
             before = All-nil (λ l. l.hops < 1);
-            layer = All-same (λ l. l.hops ≡ 1) labels growing.layer growing.joined (All-weaker (IsNew rules moves 0 []) (λ l. l.hops ≡ 1) (λ l n. n.hops_is) growing.layer growing.new);
+            layer = All-same (λ l. l.hops ≡ 1) labels grown.layer grown.joined (All-weaker (IsNew rules moves 0 []) (λ l. l.hops ≡ 1) (λ l n. n.hops_is) grown.layer grown.new);
           },
         )
 
@@ -184,9 +188,7 @@ module _ {R S : Type 0} (rules : Rules R S) (moves : MoveRules R S) where
     pub next_none : (hops start : ℕ) (old : List (Label R)) → Whole rules moves hops old → NextLayer rules moves Fits hops start old old 1
     next_none hops start old whole = record {
       growing = record {
-        layer = [];
-        joined = sym (append-nil old);
-        new = All-nil (IsNew rules moves hops old);
+        grown = record { layer = []; joined = sym (append-nil old); new = All-nil (IsNew rules moves hops old) };
         apart = whole.apart;
       };
       below = All-nil (λ (l : Label R). l.call < 1);
@@ -196,7 +198,7 @@ module _ {R S : Type 0} (rules : Rules R S) (moves : MoveRules R S) where
     -- what labels have is meant
     pub next_fit : (hops start : ℕ) (old labels : List (Label R)) (to : ℕ) → Whole rules moves hops old → NextLayer rules moves Fits hops start old labels to → All (λ l. Fits l.state) labels
     next_fit hops start old labels to whole next =
-        All-weaker (IsReached rules moves (hops + 1)) (λ l. Fits l.state) (reached_fits rules moves laws fitting (hops + 1)) labels (growing_reached rules moves laws fitting hops old labels whole next.growing)
+        All-weaker (IsReached rules moves (hops + 1)) (λ l. Fits l.state) (reached_fits rules moves laws fitting (hops + 1)) labels (grown_reached rules moves laws fitting hops old labels whole.covering next.growing.grown)
 
     pub bucket_fit : (hops start : ℕ) (old bucket : List (Label R)) (to place : ℕ) → Bucket rules moves Fits hops start old bucket to place → All (λ l. Fits l.state) bucket
     bucket_fit hops start old bucket to place b =
@@ -205,8 +207,8 @@ module _ {R S : Type 0} (rules : Rules R S) (moves : MoveRules R S) where
     -- the bucket of a call is added
     pub next_bucket : (hops start : ℕ) (old labels bucket : List (Label R)) (to : ℕ) → NextLayer rules moves Fits hops start old labels to → Bucket rules moves Fits hops start old bucket to (length old) → NextLayer rules moves Fits hops start old (labels ++ bucket) (to + 1)
     next_bucket hops start old labels bucket to next b =
-        let layer = next.growing.layer in
-        let joined = next.growing.joined in
+        let layer = next.growing.grown.layer in
+        let joined = next.growing.grown.joined in
         let apart : AllPairs (Apart (label_covers rules)) ((old ++ layer) ++ bucket) =
         pairs_joined (Apart (label_covers rules)) old layer bucket
         (subst (AllPairs (Apart (label_covers rules))) joined next.growing.apart) b.apart
@@ -221,9 +223,11 @@ module _ {R S : Type 0} (rules : Rules R S) (moves : MoveRules R S) where
         (Contains-append_cases old bucket k held) in
         record {
           growing = record {
-            layer = layer ++ bucket;
-            joined = ap (λ l. l ++ bucket) joined ∙ append_assoc old layer bucket;
-            new = All-append (IsNew rules moves hops old) layer bucket next.growing.new (All-weaker (IsNewAt rules moves hops old to) (IsNew rules moves hops old) (λ k n. n.new) bucket b.new);
+            grown = record {
+              layer = layer ++ bucket;
+              joined = ap (λ l. l ++ bucket) joined ∙ append_assoc old layer bucket;
+              new = All-append (IsNew rules moves hops old) layer bucket next.growing.grown.new (All-weaker (IsNewAt rules moves hops old to) (IsNew rules moves hops old) (λ k n. n.new) bucket b.new);
+            };
             apart = subst (λ l. AllPairs (Apart (label_covers rules)) (l ++ bucket)) (sym joined) apart;
           };
           below = All-append (λ l. l.call < to + 1) layer bucket
@@ -238,47 +242,21 @@ module _ {R S : Type 0} (rules : Rules R S) (moves : MoveRules R S) where
               (cases_lt call to);
         }
 
-    -- what follows from the last layer was tried
-    tried_from : (hops start : ℕ) (old labels : List (Label R)) (to : ℕ) → IsLastLayer hops start old → NextLayer rules moves Fits hops start old labels to → (from : Label R) (call : ℕ) → Contains old from → from.hops ≡ hops → 1 ≤ call → call < to → Tried rules moves Fits labels from call
-    tried_from hops start old labels to last next from call held is some below =
-        ⊎_elim
-        (λ less.
-        let at = get_or-take start old held.0 from less in
-        let short = last.before held.0 from (omega (arith, length-take start old, held.1)) in
-        absurd (omega (arith, short, ap (λ l. l.hops) (at ∙ held.2))))
-        (λ most. subst (λ l. Tried rules moves Fits labels l call) held.2 (next.tried held.0 from call most held.1 some below))
-        (cases_lt held.0 start)
-
-    -- every beginning is covered where there is a layer
-    begins_covered : (hops : ℕ) (old labels : List (Label R)) → 1 ≤ hops → Whole rules moves hops old → Growing rules moves hops old labels → BeginningsCovered rules moves labels
-    begins_covered hops old labels some whole growing = record {
-      covered = λ t b. covered_old rules moves hops old labels t growing
-          (whole.covered t (front_within rules moves 1 hops t some (front_begun rules moves b.call t b.is_call b.begins)));
-    }
-
     pub next_whole : (hops start : ℕ) (old labels : List (Label R)) (to : ℕ) → 1 ≤ hops → Whole rules moves hops old → IsLastLayer hops start old → NextLayer rules moves Fits hops start old labels to → moves.calls < to → Whole rules moves (hops + 1) labels × IsLastLayer (hops + 1) (length old) labels
     next_whole hops start old labels to some whole last next past =
-        let growing = next.growing in (
-          whole_next rules moves laws fitting hops old labels whole growing (begins_covered hops old labels some whole growing)
-              (λ from call held is is_call. tried_from hops start old labels to last next from call held is is_call.low (omega (arith, is_call.high))),
-          record {
-            before = All-same (λ l. l.hops < hops + 1) (take (length old) labels) old (ap (take (length old)) growing.joined ∙ take_at old growing.layer (length old) refl)
-                (All-weaker (IsReached rules moves hops) (λ l. l.hops < hops + 1) (λ l r. omega (arith, r.few)) old whole.reached);
-            layer = All-same (λ l. l.hops ≡ hops + 1) (drop (length old) labels) growing.layer (ap (drop (length old)) growing.joined ∙ drop_at old growing.layer (length old) refl)
-                (All-weaker (IsNew rules moves hops old) (λ l. l.hops ≡ hops + 1) (λ l n. n.hops_is) growing.layer growing.new);
-          },
-        )
+        let both = covering_next rules moves laws fitting hops start old labels to some whole.covering last next.growing.grown next.tried past in
+        (whole_next rules moves laws fitting hops old labels whole next.growing both.0, both.1)
 
     -- a new label stands at a call whose bucket is finished
     new_below : (hops start : ℕ) (old labels : List (Label R)) (to k : ℕ) (d : Label R) → Whole rules moves hops old → NextLayer rules moves Fits hops start old labels to → k < length labels → (get_or labels k d).hops ≡ hops + 1 → (get_or labels k d).call < to
     new_below hops start old labels to k d whole next within is_new =
-        let layer = next.growing.layer in
-        let joined = next.growing.joined in
+        let layer = next.growing.grown.layer in
+        let joined = next.growing.grown.joined in
         let long : length labels ≡ length old + length layer = ap length joined ∙ length-append old layer in
         ⊎_elim
         (λ first.
         let at = ap (λ l. get_or l k d) joined ∙ get_or_append_left old layer d k first in
-        absurd (omega (arith, (whole.reached k d first).few, ap (λ l. l.hops) at, is_new)))
+        absurd (omega (arith, (whole.covering.reached k d first).few, ap (λ l. l.hops) at, is_new)))
         (λ past.
         let at = ap (λ l. get_or l k d) joined ∙ get_or-append_right old layer (length old) k d refl past in
         let low = next.below (k - length old) d (omega arith) in
@@ -289,19 +267,20 @@ module _ {R S : Type 0} (rules : Rules R S) (moves : MoveRules R S) where
     pub next_uncovered : (hops start most : ℕ) (old labels : List (Label R)) (to : ℕ) → 1 ≤ hops → hops + 1 ≤ most → Whole rules moves hops old → IsLastLayer hops start old → NextLayer rules moves Fits hops start old labels to → All (λ l. IsUncovered rules moves most (state_of l)) labels
     next_uncovered hops start most old labels to some le whole last next k d within =
         let growing = next.growing in
-        let all_reached = growing_reached rules moves laws fitting hops old labels whole growing in
+        let grown = growing.grown in
+        let all_reached = grown_reached rules moves laws fitting hops old labels whole.covering grown in
         let label = get_or labels k d in
         let few_label = (all_reached k d within).few in
         let covered : (t : State R) → IsFrontState rules moves t.hops t → t.call ≡ label.call → t.hops ≤ label.hops → Covered rules moves labels t = λ t own call few.
         ⊎_elim
-        (λ short. covered_old rules moves hops old labels t growing (whole.covered t (front_within rules moves t.hops hops t (omega arith) own)))
+        (λ short. covered_old rules moves hops old labels t grown (whole.covering.covered t (front_within rules moves t.hops hops t (omega arith) own)))
         (λ long.
         let front : IsFrontState rules moves (hops + 1) t = subst (λ h. IsFrontState rules moves h t) (omega arith) own in
         let low = new_below hops start old labels to k d whole next within (omega arith) in
         ⊎_elim
-        ((begins_covered hops old labels some whole growing).covered t)
-        (λ e. longer_covered rules moves laws fitting hops old labels whole growing t front e
-        (λ from held is. tried_from hops start old labels to last next from e.to held is e.is_call.low (omega (arith, (move_parts rules moves e.before e.to t e.extends).call, call, low))))
+        ((begins_covered rules moves laws fitting hops old labels some whole.covering grown).covered t)
+        (λ e. longer_covered rules moves laws fitting hops old labels whole.covering grown t front e
+        (λ from held is. tried_from rules moves laws fitting hops start old labels to last next.tried from e.to held is e.is_call.low (omega (arith, (move_parts rules moves e.before e.to t e.extends).call, call, low))))
         (front_end rules moves hops t front))
         (cases_lt t.hops (hops + 1)) in
         uncovered_at rules moves laws fitting (hops + 1) most labels k d le all_reached growing.apart within covered
@@ -309,5 +288,5 @@ module _ {R S : Type 0} (rules : Rules R S) (moves : MoveRules R S) where
     -- so there are too many where these labels are too many
     pub next_many : (limit hops start most : ℕ) (old labels : List (Label R)) (to : ℕ) → 1 ≤ hops → hops + 1 ≤ most → limit < length labels → Whole rules moves hops old → IsLastLayer hops start old → NextLayer rules moves Fits hops start old labels to → HasMoreThan rules moves limit most
     next_many limit hops start most old labels to some le many whole last next =
-        more_uncovered rules moves laws fitting limit (hops + 1) most labels many (growing_reached rules moves laws fitting hops old labels whole next.growing) next.growing.apart
+        more_uncovered rules moves laws fitting limit (hops + 1) most labels many (grown_reached rules moves laws fitting hops old labels whole.covering next.growing.grown) next.growing.apart
         (next_uncovered hops start most old labels to some le whole last next)

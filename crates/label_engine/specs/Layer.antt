@@ -1,5 +1,5 @@
--- Labels that stand for all fronts of at most so many calls, and how a layer of longer ones grows behind them, one call
--- after another.
+-- Labels that cover all fronts of at most so many calls, and how a layer of longer ones grows behind them, one call after
+-- another.
 use Rattle.std.specs.Prelude.{◌≡◌, ℕ, ◌+◌, ◌<◌, ◌≤◌, Bool, false, List, [], ◌++◌, length, slice_index_or, take, drop, Some, All, AllPairs}
 use Rattle.label_core.specs.Resource.{Rules}
 use Rattle.label_engine.specs.Front.{MoveRules, State, begun, moved, IsFrontState}
@@ -27,13 +27,17 @@ module _ {R S : Type 0} (rules : Rules R S) (moves : MoveRules R S) where
     pub front : IsFrontState rules moves hops (state_of label)
     pub few : label.hops ≤ hops
 
-  -- the labels stand for all fronts of at most so many calls
-  pub record Whole (hops : ℕ) (labels : List (Label R)) : Type 0 where
+  -- the labels cover all fronts of at most so many calls, and one may cover another
+  pub record Covering (hops : ℕ) (labels : List (Label R)) : Type 0 where
     pub reached : All (IsReached hops) labels
     pub covered : (s : State R) → IsFrontState rules moves hops s → Covered rules moves labels s
+    pub parents : All (HasParent rules moves labels) labels
+
+  -- the labels cover all fronts of at most so many calls, and none covers another
+  pub record Whole (hops : ℕ) (labels : List (Label R)) : Type 0 where
+    pub covering : Covering hops labels
     pub apart : AllPairs (Apart (label_covers rules)) labels
     pub rising : AllPairs InOrder labels
-    pub parents : All (HasParent rules moves labels) labels
 
   -- a label one call longer than the old ones
   pub record IsNew (hops : ℕ) (old : List (Label R)) (label : Label R) : Type 0 where
@@ -47,10 +51,14 @@ module _ {R S : Type 0} (rules : Rules R S) (moves : MoveRules R S) where
     pub at : label.call ≡ call
 
   -- new labels behind the old ones
-  pub record Growing (hops : ℕ) (old labels : List (Label R)) : Type 0 where
+  pub record Grown (hops : ℕ) (old labels : List (Label R)) : Type 0 where
     pub layer : List (Label R)
     pub joined : labels ≡ old ++ layer
     pub new : All (IsNew hops old) layer
+
+  -- new labels behind the old ones, of which none covers another
+  pub record Growing (hops : ℕ) (old labels : List (Label R)) : Type 0 where
+    pub grown : Grown hops old labels
     pub apart : AllPairs (Apart (label_covers rules)) labels
 
   -- the beginning at a call, if there is one, is covered
@@ -71,7 +79,7 @@ module _ {R S : Type 0} (rules : Rules R S) (moves : MoveRules R S) where
   -- the layer behind the old labels, as far as the buckets of the calls below this one are made
   pub record NextLayer (Fits : R → Type 0) (hops start : ℕ) (old labels : List (Label R)) (to : ℕ) : Type 0 where
     pub growing : Growing hops old labels
-    pub below : All (λ label. label.call < to) growing.layer
+    pub below : All (λ label. label.call < to) growing.grown.layer
     pub tried :
         (i : ℕ) (d : Label R) (call : ℕ) → start ≤ i → i < length old → 1 ≤ call → call < to →
         Tried Fits labels (slice_index_or old i d) call

@@ -8,3 +8,4 @@ pub mod Cut
 pub mod Example
 pub mod Greatest
 pub mod Renaming
+pub mod BoundedRows

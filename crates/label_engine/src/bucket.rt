@@ -15,11 +15,11 @@ use std::alloc::AllocError;
 /// The step from a call to the call of a bucket, kept while the labels that are extended stand at that call.
 #[derive(Drop)]
 pub(crate) struct KnownStep<S> {
-    from: u32,
-    step: Option<S>,
+    pub from: u32,
+    pub step: Option<S>,
 }
 
-fn know_step<R: Resource, M: Moves<R>>(
+pub(crate) fn know_step<R: Resource, M: Moves<R>>(
     moves: &M,
     known: &mut KnownStep<R::Step>,
     from: u32,
@@ -38,7 +38,7 @@ fn know_step<R: Resource, M: Moves<R>>(
 }
 
 /// The label at a place, one call further by the step.
-fn extension<R: Resource>(
+pub(crate) fn extension<R: Resource>(
     label: &Label<R>,
     place: usize,
     step: &Option<R::Step>,
@@ -76,7 +76,7 @@ fn first_better<R: Resource>(rivals: &[R], state: &R) -> Option<usize>
 }
 
 /// Whether a rival is at least as good as a state. One that is moves halfway to the front, so that it is met sooner.
-fn is_beaten<R: Resource>(rivals: &mut [R], state: &R) -> bool
+pub(crate) fn is_beaten<R: Resource>(rivals: &mut [R], state: &R) -> bool
     ensures value { result ≡ list_any (beats R.rules state.now) rivals.old }
     ensures rivals { IsPermutation rivals.old rivals.new }
 {

@@ -2,8 +2,8 @@ ghost use Rattle.std.specs.Prelude.{◌≡◌, ◌<◌, ◌≤◌, ◌^◌, All,
 ghost use Rattle.std.specs.Int.{w128};
 ghost use Rattle.label_core.specs.Clock.{clock_after};
 ghost use Rattle.label_engine.specs.Cut.{IsCut, cut_rules, flagged_moves, relaxed};
+ghost use Rattle.label_engine.specs.Settled.{CoversFronts, HasMoreThan};
 ghost use Rattle.label_engine.specs.Greatest.{sigma_of, HasWalk, is_open_tour, IsAtCall, value_of, IsBest, better};
-ghost use Rattle.label_engine.specs.Settled.{IsSettled};
 ghost use Rattle.orienteering.specs.Duality.{BoundsTours};
 ghost use Rattle.orienteering.specs.Instance.{calls, end_place, next_clock, IsCall};
 ghost use Rattle.orienteering.specs.Price.{IsFit};
@@ -11,9 +11,11 @@ ghost use Rattle.orienteering.specs.Region.{IsProper, is_forced};
 ghost use Rattle.orienteering.specs.Replay.{is_critical_set, relaxation};
 ghost use Rattle.orienteering.specs.Sigma.{sigma, undominated};
 
+use crate::bounded_rows::cover_fronts;
 use crate::cut_moves::CutMoves;
 use crate::flagged_moves::{FlaggedMoves, FlaggedState};
 use crate::label::{Label, ReplayFail};
+use crate::moves::Moves;
 use crate::search::settle;
 use crate::walk::front_of;
 use orienteering::{Price, Tour};
@@ -68,14 +70,14 @@ fn best_closed(cut: &CutMoves, labels: &[Label<FlaggedState>]) -> Option<Closed>
     best
 }
 
-/// The outcome that the settled labels give.
+/// The outcome that labels give which cover all fronts.
 fn answer(
     alloc: Global,
     moves: &FlaggedMoves,
     labels: &[Label<FlaggedState>],
 ) -> Result<Outcome, AllocError>
     requires cut { IsCut moves.now }
-    requires settled { IsSettled cut_rules (flagged_moves moves.now) (calls moves.now.problem) labels.now }
+    requires covers { CoversFronts cut_rules (flagged_moves moves.now) (calls moves.now.problem) labels.now }
     ensures sigma { IfOk result (λ outcome. sigma_of outcome ≡ sigma moves.now.problem (relaxed moves.now)) }
     ensures walk { IfOk result (HasWalk moves.now.problem (relaxed moves.now)) }
 {
@@ -89,6 +91,23 @@ fn answer(
             })
         }
     }
+}
+
+/// The outcome of a replay: by rows of bounded length where at most `limit` labels are kept so, and by the settled labels
+/// otherwise, which alone tell whether there are too many.
+fn replayed(alloc: Global, moves: &FlaggedMoves, limit: u64) -> Result<Outcome, ReplayFail>
+    requires cut { IsCut moves.now }
+    ensures sigma { IfOk result (λ outcome. sigma_of outcome ≡ sigma moves.now.problem (relaxed moves.now)) }
+    ensures walk { IfOk result (HasWalk moves.now.problem (relaxed moves.now)) }
+    ensures few { OnOk result (¬ HasMoreThan cut_rules (flagged_moves moves.now) limit (calls moves.now.problem)) }
+    ensures many { result ≡ Err ReplayFail.TooManyLabels → HasMoreThan cut_rules (flagged_moves moves.now) limit (calls moves.now.problem) }
+{
+    let hops = moves.calls();
+    if let Some(found) = cover_fronts(alloc, moves, hops, limit)? {
+        return Ok(answer(alloc, moves, found.labels())?);
+    }
+    let settled = settle(alloc, moves, hops, limit)?;
+    Ok(answer(alloc, moves, settled.labels())?)
 }
 
 /// The greatest value of a relaxed walk of the region under the price, in which no critical call stands twice
@@ -116,8 +135,9 @@ pub fn greatest(
     ensures few { OnOk result (length (undominated inst.now (relaxation ctx.now price.now critical.now)) ≤ limit) }
     ensures many { result ≡ Err ReplayFail.TooManyLabels → limit < length (undominated inst.now (relaxation ctx.now price.now critical.now)) }
 {
+    let _calls = inst.calls();
     let cut = CutMoves::new(alloc, inst, ctx, price, critical);
     let moves = FlaggedMoves::of(alloc, cut)?;
-    let settled = settle(alloc, &moves, inst.calls(), limit)?;
-    Ok(answer(alloc, &moves, settled.labels())?)
+    let outcome = replayed(alloc, &moves, limit)?;
+    Ok(outcome)
 }

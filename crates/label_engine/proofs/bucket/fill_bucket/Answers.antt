@@ -7,7 +7,7 @@ use Rattle.label_engine.proofs.bucket.fill_bucket.Goals as goal
 
 pub know_step-requires-clause-from : goal.know_step-requires-clause-from
 know_step-requires-clause-from g c =
-    (from_known g.R.Resource.rules (g.M.Moves.moves c.args.moves.now) g.met.R.Resource.laws c.requires.fitting c.args.hops c.args.labels.now c.loop-place.place c.index-labels-place.result c.requires.whole (omega arith) c.index-labels-place.is).is_call
+    (from_known g.R.Resource.rules (g.M.Moves.moves c.args.moves.now) g.met.R.Resource.laws c.requires.fitting c.args.hops c.args.labels.now c.loop-place.place c.index-labels-place.result c.requires.whole.covering (omega arith) c.index-labels-place.is).is_call
 
 pub loop-place-preserved : goal.loop-place-preserved
 loop-place-preserved g c =
@@ -16,7 +16,7 @@ loop-place-preserved g c =
     let labels = c.args.labels.now in
     let label = c.index-labels-place.result in
     let known = c.know_step.new.known in
-    let is_call = (from_known rules moves g.met.R.Resource.laws c.requires.fitting c.args.hops labels c.loop-place.place label c.requires.whole (omega arith) c.index-labels-place.is).is_call in
+    let is_call = (from_known rules moves g.met.R.Resource.laws c.requires.fitting c.args.hops labels c.loop-place.place label c.requires.whole.covering (omega arith) c.index-labels-place.is).is_call in
     let step : known.step ≡ moves.step label.call c.args.to =
     c.know_step.ensures.known.step (omega (arith, is_call.low, c.know_step.ensures.from)) ∙ ap (λ from. moves.step from c.args.to) c.know_step.ensures.from in
     let found = c.extension-found.ensures ∙ ap (λ s. stepped_label rules label c.loop-place.place s c.args.to) step in

@@ -5,7 +5,7 @@ use Rattle.label_engine.specs.Front.{IsCallOf}
 use Rattle.label_engine.specs.Layer.{IsReached}
 use Rattle.label_engine.specs.Offer.{begun_label}
 use Rattle.label_engine.specs.Rivals.{AreRivals}
-use Rattle.label_engine.proofs.Layers.{reached_fits, growing_reached, whole_none}
+use Rattle.label_engine.proofs.Layers.{reached_fits, grown_reached, whole_none}
 use Rattle.label_engine.proofs.Rivals.{all_rivals_push, rivals_closed}
 use Rattle.label_engine.proofs.Steps.{begun_at, first_rivals, first_step, first_whole}
 use Rattle.label_engine.proofs.layer.first_layer.Goals as goal
@@ -23,7 +23,7 @@ loop-index-preserved g c =
     let found = option_to_list (begun_label rules moves call) in
     let at = begun_at rules moves laws fitting call is_call in
     let fit = All-weaker (IsReached rules moves 1) (λ l. g.R.Resource.fits l.state) (reached_fits rules moves laws fitting 1) labels
-    (growing_reached rules moves laws fitting 0 [] labels (whole_none rules moves laws fitting) first.growing) in
+    (grown_reached rules moves laws fitting 0 [] labels (whole_none rules moves laws fitting).covering first.growing.grown) in
     let row = c.in_ok-begin_call.field-0 in
     let closed : AreRivals rules (labels ++ found) call row.items =
     subst (AreRivals rules (labels ++ found) call) (sym c.in_ok-begin_call.ensures.rivals)

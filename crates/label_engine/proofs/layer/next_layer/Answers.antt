@@ -22,16 +22,16 @@ fill_bucket-requires-clause-rivals g c =
     let rules = g.R.Resource.rules in
     let call = c.loop-index.index + 1 in
     let old = c.args.labels.now.items in
-    let growing = c.loop-index.invariant.next.growing in
+    let grown = c.loop-index.invariant.next.growing.grown in
     let row = c.index_mut-row.result.now in
     let sliced : take c.len-end.result c.deref.result.now ≡ old =
-    ap (take c.len-end.result) (c.deref.ensures.value ∙ growing.joined) ∙ take_at old growing.layer c.len-end.result (omega (arith, c.len-end.ensures, c.args.labels.now.ok.0)) in
+    ap (take c.len-end.result) (c.deref.ensures.value ∙ grown.joined) ∙ take_at old grown.layer c.len-end.result (omega (arith, c.len-end.ensures, c.args.labels.now.ok.0)) in
     let in_rows : c.loop-index.index < length c.loop-index.rivals.items = omega (arith, c.loop-index.rivals.ok.0, c.loop-index.invariant.rows) in
     let here : AreRivals rules c.loop-index.labels.items call row.items =
     subst (λ v. AreRivals rules c.loop-index.labels.items call v.items) (sym c.index_mut-row.ensures.value) (c.loop-index.invariant.rivals.row c.loop-index.index row in_rows) in
     let before : AreRivals rules old call row.items =
-    rivals_shorter rules old growing.layer call row.items (subst (λ l. AreRivals rules l call row.items) growing.joined here)
-    (All-weaker (λ l. l.call < call) (λ l. l.call ≡ call → ⊥) (λ l low e. omega arith) growing.layer c.loop-index.invariant.next.below) in
+    rivals_shorter rules old grown.layer call row.items (subst (λ l. AreRivals rules l call row.items) grown.joined here)
+    (All-weaker (λ l. l.call < call) (λ l. l.call ≡ call → ⊥) (λ l low e. omega arith) grown.layer c.loop-index.invariant.next.below) in
     rw (sliced, c.deref_mut.ensures.value) before
 
 pub returns-then-len-limit-clause-many : goal.returns-then-len-limit-clause-many
@@ -46,7 +46,7 @@ returns-then-len-limit-clause-many g c _ most le =
     let bucket = c.fill_bucket.new.bucket.items in
     let next = c.loop-index.invariant.next in
     let sliced : take c.len-end.result c.deref.result.now ≡ old =
-    ap (take c.len-end.result) (c.deref.ensures.value ∙ next.growing.joined) ∙ take_at old next.growing.layer c.len-end.result (omega (arith, c.len-end.ensures, c.args.labels.now.ok.0)) in
+    ap (take c.len-end.result) (c.deref.ensures.value ∙ next.growing.grown.joined) ∙ take_at old next.growing.grown.layer c.len-end.result (omega (arith, c.len-end.ensures, c.args.labels.now.ok.0)) in
     let filled : Bucket rules moves g.R.Resource.fits c.args.hops c.args.start old bucket call (length old) =
     subst (λ l. Bucket rules moves g.R.Resource.fits c.args.hops c.args.start l bucket call (length l)) sliced c.in_ok-fill_bucket.ensures.filled in
     let longer = next_bucket rules moves laws fitting c.args.hops c.args.start old labels bucket call next filled in
@@ -67,15 +67,15 @@ loop-index-preserved g c =
     let bucket = c.fill_bucket.new.bucket.items in
     let rivals = c.fill_bucket.new.rivals in
     let next = c.loop-index.invariant.next in
-    let layer = next.growing.layer in
+    let layer = next.growing.grown.layer in
     let sliced : take c.len-end.result c.deref.result.now ≡ old =
-    ap (take c.len-end.result) (c.deref.ensures.value ∙ next.growing.joined) ∙ take_at old layer c.len-end.result (omega (arith, c.len-end.ensures, c.args.labels.now.ok.0)) in
+    ap (take c.len-end.result) (c.deref.ensures.value ∙ next.growing.grown.joined) ∙ take_at old layer c.len-end.result (omega (arith, c.len-end.ensures, c.args.labels.now.ok.0)) in
     let filled : Bucket rules moves fits c.args.hops c.args.start old bucket call (length old) =
     subst (λ l. Bucket rules moves fits c.args.hops c.args.start l bucket call (length l)) sliced c.in_ok-fill_bucket.ensures.filled in
     let longer = next_bucket rules moves laws fitting c.args.hops c.args.start old labels bucket call next filled in
     let at = All-weaker (IsNewAt rules moves c.args.hops old call) (λ l. l.call ≡ call) (λ l n. n.at) bucket filled.new in
     let before : AreRivals rules labels call rivals =
-    subst (λ l. AreRivals rules l call rivals) (sym next.growing.joined)
+    subst (λ l. AreRivals rules l call rivals) (sym next.growing.grown.joined)
     (rivals_longer rules old layer call rivals (subst (λ l. AreRivals rules l call rivals) sliced c.in_ok-fill_bucket.ensures.rivals)
     (All-weaker (λ l. l.call < call) (λ l. l.call ≡ call → ⊥) (λ l low e. omega arith) layer next.below)) in
     let row_is : c.close_bucket.new.rivals.items ≡ closed_rivals rules bucket rivals =
