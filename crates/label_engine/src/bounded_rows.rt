@@ -228,7 +228,7 @@ pub(crate) fn cover_fronts<R: Resource + Ranked, M: Moves<R>>(
     let mut labels = Vec::new(alloc);
     let mut rows = Vec::new(alloc);
     first_layer(alloc, moves, calls, &mut labels, &mut rows)?;
-    if labels.len() as u64 > limit {
+    if limit < labels.len() as u64 {
         return Ok(None);
     }
     let mut start = 0;

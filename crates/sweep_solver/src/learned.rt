@@ -17,9 +17,12 @@ pub(crate) struct Learned {
     pub plans: Vec<Plan>,
 }
 
-/// Whether one of the points weakly dominates the point.
-pub(crate) fn is_covered(points: &[Point], point: Point) -> bool {
-    points.iter().any(|held| point.profit <= held.profit && held.time <= point.time)
+/// Whether one of the points, which rise in profit and time, weakly dominates the point.
+fn is_covered(points: &[Point], point: Point) -> bool {
+    let poorer = points.partition_point(|held| held.profit < point.profit);
+    points
+        .get(poorer)
+        .is_some_and(|held| held.time <= point.time)
 }
 
 impl Learned {

@@ -15,7 +15,7 @@ loop-length-init g c =
       covering = c.in_ok-first_layer.ensures.whole.covering;
       layer = c.in_ok-first_layer.ensures.layer;
       start = omega arith;
-      few = omega (arith, labels.ok.0, c.len.ensures, c.if-len-limit.false);
+      few = omega (arith, labels.ok.0, c.len.ensures, c.if-limit-len.false);
       count_rows = c.in_ok-first_layer.ensures.count;
       rows = rows_of_rivals rules labels.items c.first_layer.new.rivals.items c.in_ok-first_layer.ensures.rivals;
     }
