@@ -111,13 +111,13 @@ module _ (c : Cut) (is : IsCut c) where
       let low = (position-Some (λ place. nat_eq place call) c.critical n 0 e).0 in
       omega (arith, few_critical c is)
 
-  flagged_step_fits : (i j : ℕ) (step : CutStep) → j ≤ calls c.problem → flagged_between c i j ≡ Some step → FitsStep step
+  pub flagged_step_fits : (i j : ℕ) (step : CutStep) → j ≤ calls c.problem → flagged_between c i j ≡ Some step → FitsStep step
   flagged_step_fits i j step within e =
       let m = mapped (marked (flag_of c.critical j)) (step_between c.problem (relaxed c) i j) step e in
       let f = between_fits c.problem c.region c.price c.critical is.instance is.fit i j m.value within m.is in
       subst FitsStep m.gives (record { a = f.a; b = record { a = flag_fits j; b = f.b.b } })
 
-  flagged_start_fits : Fits (at_start c.problem)
+  pub flagged_start_fits : Fits (at_start c.problem)
   flagged_start_fits =
       let f = start_fits c.problem c.region c.price c.critical is.instance is.fit in
       record { a = f.a; b = record { a = record { rising = tt; low = tt }; b = f.b.b } }

@@ -18,3 +18,4 @@ pub mod Renaming
 pub mod Names
 pub mod Flagged
 pub mod RowLayers
+pub mod SmallSums

@@ -32,7 +32,7 @@ AllPairs-unmap R f xs h i j d below within =
     subst (λ a. R a (f (get_or xs j d))) (get_or-map f xs i d (f d) (omega arith))
     (subst (λ b. R (get_or (map f xs) i (f d)) b) (get_or-map f xs j d (f d) within) (h i j (f d) below (omega arith)))
 
-MatchOption-weaker : {X : Type 0} (o : Option X) (P P' : Type 0) (Q Q' : X → Type 0) → (P → P') → ((x : X) → Q x → Q' x) → MatchOption o P Q → MatchOption o P' Q'
+pub MatchOption-weaker : {X : Type 0} (o : Option X) (P P' : Type 0) (Q Q' : X → Type 0) → (P → P') → ((x : X) → Q x → Q' x) → MatchOption o P Q → MatchOption o P' Q'
 MatchOption-weaker None P P' Q Q' f g m = f m
 MatchOption-weaker (Some x) P P' Q Q' f g m = g x m
 

@@ -64,11 +64,14 @@ pub record IsBounded (p : Problem) (r : Relaxation) (step : ℕ) : Type 0 where
   pub value : (i j : ℕ) → unsigned_abs (step_value p r i j) ≤ step
   pub sum : calls p * step ≤ most
 
--- the value of the walk that ends with the state, and none where it can't go to the end
+-- the value of the walk that ends at the call with this clock and sum, and none where it can't go to the end
+abbrev pub closed_sum : Problem → Relaxation → ℕ → ℕ → ℤ → Option ℤ
+closed_sum p r call at sum =
+    if r.shut call (end_place p) then None else
+    option_map (λ _. sum -ℤ pos (r.beta * travel p call (end_place p))) (next_clock p at call (end_place p))
+
 abbrev pub closed_value : Problem → Relaxation → State CutValue → Option ℤ
-closed_value p r s =
-    if r.shut s.call (end_place p) then None else
-    option_map (λ _. s.value.b.b.sum -ℤ pos (r.beta * travel p s.call (end_place p))) (next_clock p s.value.a.at s.call (end_place p))
+closed_value p r s = closed_sum p r s.call s.value.a.at s.value.b.b.sum
 
 -- the value is that of a label that can close, and no label that can close has more
 pub record IsBestClosed (p : Problem) (r : Relaxation) (labels : List (Label CutValue)) (value : ℤ) : Type 0 where

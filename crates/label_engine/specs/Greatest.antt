@@ -2,8 +2,8 @@
 use Rattle.std.specs.Prelude.{◌≡◌, ℕ, ◌+◌, ◌<◌, ◌≤◌, Bool, ℤ, ◌≤ℤ◌, int_le, unsigned_abs, List, length, slice_index_or, All, Option, None, Some, MatchOption, if◌then◌else◌}
 use Rattle.std.specs.Bool.{⊤}
 use Rattle.label_core.specs.Worth.{most}
-use Rattle.label_engine.specs.Cut.{CutValue, Cut, relaxed, closed_value, IsVisit}
-use Rattle.label_engine.specs.Settled.{state_of}
+use Rattle.label_engine.specs.Cut.{CutValue, Cut, cut_rules, relaxed, closed_value, IsVisit, flagged_moves}
+use Rattle.label_engine.specs.Settled.{state_of, HasMoreThan}
 use Rattle.label_engine.specs.declared.replay.Closed.{Closed}
 use Rattle.label_engine.specs.declared.replay.Outcome.{Outcome}
 use Rattle.label_engine.specs.declared.replay.Outcome.TheVariants.{NoWalk, Best}
@@ -11,7 +11,7 @@ use Rattle.label_engine.specs.declared.label.Label.{Label}
 use Rattle.label_engine.specs.declared.visit.Visit.{Visit}
 use Rattle.orienteering.specs.Instance.{Problem, calls, IsCall}
 use Rattle.orienteering.specs.Region.{Region, is_shut}
-use Rattle.orienteering.specs.Sigma.{is_open_along}
+use Rattle.orienteering.specs.Sigma.{is_open_along, sigma}
 use Rattle.orienteering.specs.Tour.{stops}
 use Rattle.orienteering.specs.Walk.{Relaxation, IsRelaxedWalk, walk_value}
 
@@ -32,6 +32,12 @@ HasWalk p r (Best sigma walk) = IsWalkOf p r sigma walk
 -- no arc of the tour is shut
 abbrev pub is_open_tour : Problem → Region → List ℕ → Bool
 is_open_tour p now tour = is_open_along (is_shut now) 0 (stops p tour)
+
+-- the outcome is that of the cut, and there are not more than so many states that no different one covers
+pub record IsAnswer (c : Cut) (limit : ℕ) (outcome : Outcome) : Type 0 where
+  pub sigma : sigma_of outcome ≡ sigma c.problem (relaxed c)
+  pub walk : HasWalk c.problem (relaxed c) outcome
+  pub few : ¬ HasMoreThan cut_rules (flagged_moves c) limit (calls c.problem)
 
 -- ---- the best of some labels
 

@@ -9,3 +9,5 @@ pub mod Example
 pub mod Greatest
 pub mod Renaming
 pub mod BoundedRows
+pub mod SmallSums
+pub mod SmallSumsLaws

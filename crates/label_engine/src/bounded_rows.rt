@@ -13,6 +13,7 @@ use crate::flagged_moves::FlaggedState;
 use crate::label::{Label, Settled};
 use crate::layer::first_layer;
 use crate::moves::Moves;
+use crate::small_moves::SmallState;
 use label_core::Resource;
 use std::alloc::{AllocError, Global};
 
@@ -25,6 +26,12 @@ pub(crate) trait Ranked {
 impl Ranked for FlaggedState {
     fn rank(&self) -> i128 {
         self.b.b.sum
+    }
+}
+
+impl Ranked for SmallState {
+    fn rank(&self) -> i128 {
+        i128::from(self.b.b.sum)
     }
 }
 

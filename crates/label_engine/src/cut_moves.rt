@@ -1,7 +1,7 @@
-ghost use Rattle.std.specs.Prelude.{◌≡◌, ◌*◌, ◌<◌, ◌≤◌, ℕ, pos, ◌-ℤ◌, FitsSigned, IfSome, is_some, length, true, if◌then◌else◌};
+ghost use Rattle.std.specs.Prelude.{◌≡◌, ◌*◌, ◌<◌, ◌≤◌, ℕ, pos, ◌-ℤ◌, FitsSigned, unsigned_abs, IfSome, is_some, length, true, if◌then◌else◌};
 ghost use Rattle.std.specs.Int.{w64};
-ghost use Rattle.label_engine.specs.Cut.{cut, at_start, flag_of, IsCut, IsVisit, relaxed, cut_moves, step_between};
-ghost use Rattle.label_engine.specs.Greatest.{IsAtCall, value_of};
+ghost use Rattle.label_engine.specs.Cut.{cut, at_start, closed_sum, flag_of, IsCut, IsVisit, relaxed, cut_moves, step_between};
+ghost use Rattle.label_core.specs.Worth.{most};
 ghost use Rattle.orienteering.specs.Instance.{calls, end_place, next_clock, IsCall};
 ghost use Rattle.orienteering.specs.Limits.{longest_arc};
 ghost use Rattle.orienteering.specs.Price.{price_of, most_weight, IsFit};
@@ -9,8 +9,6 @@ ghost use Rattle.orienteering.specs.Region.{IsProper, is_forced};
 ghost use Rattle.orienteering.specs.Replay.{is_critical_set};
 ghost use Rattle.orienteering.specs.Walk.{step_value};
 
-use crate::flagged_moves::FlaggedState;
-use crate::label::Label;
 use crate::moves::Moves;
 use crate::visit::Visit;
 use bit_sets::Bits;
@@ -147,7 +145,7 @@ impl<'a> CutMoves<'a> {
     }
 
     /// What the step from a place to a call is worth.
-    fn worth(&self, from: u32, to: u32, visit: Visit) -> i64
+    pub(crate) fn worth(&self, from: u32, to: u32, visit: Visit) -> i64
         requires from { from ≤ calls self.now.problem }
         requires to { IsCall self.now.problem to }
         requires visit { IsVisit self.now to visit }
@@ -184,31 +182,32 @@ impl<'a> CutMoves<'a> {
         })
     }
 
-    /// Whether the walk of a label can go to the end in time.
-    fn is_in_time(&self, label: &Label<FlaggedState>) -> bool
-        requires { IsCall self.now.problem label.now.call }
-        ensures { result ≡ is_some (next_clock self.now.problem label.now.state.a.at label.now.call (end_place self.now.problem)) }
+    /// Whether a walk can go from a call to the end in time.
+    fn is_in_time(&self, call: u32, clock: &Clock) -> bool
+        requires { IsCall self.now.problem call }
+        ensures { result ≡ is_some (next_clock self.now.problem clock.now.at call (end_place self.now.problem)) }
     {
         let end = self.inst.calls() + 1;
         let step = ClockStep {
-            travel: self.inst.service(label.call) + self.inst.length(label.call, end),
+            travel: self.inst.service(call) + self.inst.length(call, end),
             opening: self.inst.opening(end),
             closing: self.inst.closing(end),
         };
-        label.state.a.extend(&step).is_some()
+        clock.extend(&step).is_some()
     }
 
-    /// The value of the walk of a label, None where it can't go to the end.
-    pub(crate) fn closed_value(&self, label: &Label<FlaggedState>) -> Option<i128>
-        requires { IsAtCall self.now label.now }
-        ensures { result ≡ value_of self.now label.now }
+    /// The value of a walk that ends at a call with this clock and sum, None where it can't go to the end.
+    pub(crate) fn closed_sum(&self, call: u32, clock: &Clock, sum: i128) -> Option<i128>
+        requires call { IsCall self.now.problem call }
+        requires sum { unsigned_abs sum ≤ most }
+        ensures { result ≡ closed_sum self.now.problem (relaxed self.now) call clock.now.at sum }
     {
         let end = self.inst.calls() + 1;
-        if self.ctx.is_shut(label.call, end) || !self.is_in_time(label) {
+        if self.ctx.is_shut(call, end) || !self.is_in_time(call, clock) {
             return None;
         }
-        let paid = weighted(self.price.beta, self.inst.length(label.call, end));
-        Some(label.state.b.b.sum - i128::from(paid))
+        let paid = weighted(self.price.beta, self.inst.length(call, end));
+        Some(sum - i128::from(paid))
     }
 
     /// When a walk leaves the start.

@@ -1,7 +1,9 @@
-ghost use Rattle.std.specs.Prelude.{◌≡◌, ◌≤◌, IfOk};
+ghost use Rattle.std.specs.Prelude.{◌≡◌, ◌≤◌, ℕ, true, unsigned_abs, IfOk};
 ghost use Rattle.label_core.specs.Flags.{IsFlag};
-ghost use Rattle.label_engine.specs.Cut.{flagged_between, flagged_moves, marked};
+ghost use Rattle.label_engine.specs.Cut.{IsCut, relaxed, flagged_between, flagged_moves, marked};
+ghost use Rattle.label_engine.specs.SmallSums.{HasSmallSums};
 ghost use Rattle.orienteering.specs.Instance.{calls, IsCall};
+ghost use Rattle.orienteering.specs.Walk.{step_value};
 
 use crate::cut_moves::{CutMoves, CutStep};
 use crate::moves::Moves;
@@ -39,6 +41,9 @@ impl<'a> Model for FlaggedMoves<'a> {
     ghost invariant = { λ m. IsCut m.cut × AreVisits m.cut m.visits.items };
 }
 
+/// Where sums of 8 bytes stop.
+const MOST_SMALL: u128 = 4_000_000_000_000_000_000;
+
 /// The step with the place of its call in the critical set in place of the call.
 fn flagged(step: &CutStep, visit: Visit) -> FlaggedStep
     requires { IsFlag visit.place }
@@ -66,14 +71,60 @@ impl<'a> FlaggedMoves<'a> {
         Ok(FlaggedMoves { cut, visits })
     }
 
+    /// Does nothing. The conditions of the cut hold.
+    pub(crate) fn tell(&self)
+        ensures { IsCut self.now }
+    {
+        let _calls = self.cut.calls();
+    }
+
     pub(crate) fn cut(&self) -> &CutMoves<'a>
         ensures { result.now ≡ self.now }
     {
         &self.cut
     }
 
+    /// What the step from a place to a call is worth.
+    fn worth(&self, from: u32, to: u32) -> i64
+        requires from { from ≤ calls self.now.problem }
+        requires to { IsCall self.now.problem to }
+        ensures { result ≡ step_value self.now.problem (relaxed self.now) from to }
+    {
+        self.cut.worth(from, to, self.visits[to as usize - 1])
+    }
+
+    /// At least the magnitude of what each step to a call is worth.
+    fn greatest_step_to(&self, to: u32) -> u64
+        requires { IsCall self.now.problem to }
+        ensures { (i : ℕ) → i ≤ calls self.now.problem → unsigned_abs (step_value self.now.problem (relaxed self.now) i to) ≤ result }
+    {
+        let mut greatest: u64 = 0;
+        for from in 0..self.cut.calls() + 1 {
+            greatest = greatest.max(self.worth(from, to).unsigned_abs());
+        }
+        greatest
+    }
+
+    /// At least the magnitude of what each step is worth.
+    fn greatest_step(&self) -> u64
+        ensures { (i j : ℕ) → i ≤ calls self.now.problem → IsCall self.now.problem j → unsigned_abs (step_value self.now.problem (relaxed self.now) i j) ≤ result }
+    {
+        let mut greatest: u64 = 0;
+        for index in 0..self.cut.calls() {
+            greatest = greatest.max(self.greatest_step_to(index + 1));
+        }
+        greatest
+    }
+
+    /// Whether the sums of all walks that a replay looks at keep within 4 * 10^18.
+    pub(crate) fn has_small_sums(&self) -> bool
+        ensures { result ≡ true → HasSmallSums self.now }
+    {
+        u128::from(self.cut.calls()) * u128::from(self.greatest_step()) <= MOST_SMALL
+    }
+
     /// The step from a place to a call, None where the arc is shut or leads nowhere.
-    fn step_to(&self, from: u32, to: u32) -> Option<FlaggedStep>
+    pub(crate) fn step_to(&self, from: u32, to: u32) -> Option<FlaggedStep>
         requires from { from ≤ calls self.now.problem }
         requires to { IsCall self.now.problem to }
         ensures { result ≡ flagged_between self.now from to }

@@ -17,6 +17,7 @@ mod layer;
 mod moves;
 mod replay;
 mod search;
+mod small_moves;
 #[cfg(test)]
 mod tests;
 mod visit;

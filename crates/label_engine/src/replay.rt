@@ -1,9 +1,10 @@
-ghost use Rattle.std.specs.Prelude.{◌≡◌, ◌<◌, ◌≤◌, ◌^◌, All, ℤ, ◌-ℤ◌, FitsSigned, unsigned_abs, is_some, true, length, IfOk, MatchOption, OnOk};
+ghost use Rattle.std.specs.Prelude.{◌≡◌, ◌<◌, ◌≤◌, ◌^◌, All, ℤ, ◌-ℤ◌, FitsSigned, unsigned_abs, is_some, true, length, IfOk, IfSome, MatchOption, OnOk};
 ghost use Rattle.std.specs.Int.{w128};
 ghost use Rattle.label_core.specs.Clock.{clock_after};
 ghost use Rattle.label_engine.specs.Cut.{IsCut, cut_rules, flagged_moves, relaxed};
 ghost use Rattle.label_engine.specs.Settled.{CoversFronts, HasMoreThan};
-ghost use Rattle.label_engine.specs.Greatest.{sigma_of, HasWalk, is_open_tour, IsAtCall, value_of, IsBest, better};
+ghost use Rattle.label_engine.specs.Greatest.{sigma_of, HasWalk, IsAnswer, is_open_tour, IsAtCall, value_of, IsBest, better};
+ghost use Rattle.label_engine.specs.SmallSums.{HasSmallSums, small_moves, small_rules};
 ghost use Rattle.orienteering.specs.Duality.{BoundsTours};
 ghost use Rattle.orienteering.specs.Instance.{calls, end_place, next_clock, IsCall};
 ghost use Rattle.orienteering.specs.Price.{IsFit};
@@ -17,6 +18,7 @@ use crate::flagged_moves::{FlaggedMoves, FlaggedState};
 use crate::label::{Label, ReplayFail};
 use crate::moves::Moves;
 use crate::search::settle;
+use crate::small_moves::{SmallMoves, SmallState};
 use crate::walk::front_of;
 use orienteering::{Price, Tour};
 use region_ctx::Context;
@@ -58,6 +60,14 @@ fn better(best: Option<Closed>, place: usize, value: Option<i128>) -> Option<Clo
     }
 }
 
+/// The value of the walk of a label, None where it can't go to the end.
+fn closed_value(cut: &CutMoves, label: &Label<FlaggedState>) -> Option<i128>
+    requires { IsAtCall cut.now label.now }
+    ensures { result ≡ value_of cut.now label.now }
+{
+    cut.closed_sum(label.call, &label.state.a, label.state.b.b.sum)
+}
+
 /// The best of the labels that can go to the end.
 fn best_closed(cut: &CutMoves, labels: &[Label<FlaggedState>]) -> Option<Closed>
     requires { All (IsAtCall cut.now) labels.now }
@@ -65,7 +75,7 @@ fn best_closed(cut: &CutMoves, labels: &[Label<FlaggedState>]) -> Option<Closed>
 {
     let mut best = None;
     for place in 0..labels.len() {
-        best = better(best, place, cut.closed_value(&labels[place]));
+        best = better(best, place, closed_value(cut, &labels[place]));
     }
     best
 }
@@ -93,19 +103,100 @@ fn answer(
     }
 }
 
-/// The outcome of a replay: by rows of bounded length where at most `limit` labels are kept so, and by the settled labels
+/// The value of the walk of a label with a small sum, None where it can't go to the end.
+fn small_value(cut: &CutMoves, label: &Label<SmallState>) -> Option<i128>
+    requires { IsAtCall cut.now label.now }
+    ensures { result ≡ value_of cut.now label.now }
+{
+    cut.closed_sum(label.call, &label.state.a, i128::from(label.state.b.b.sum))
+}
+
+/// The best of the labels with small sums that can go to the end.
+fn best_closed_small(cut: &CutMoves, labels: &[Label<SmallState>]) -> Option<Closed>
+    requires { All (IsAtCall cut.now) labels.now }
+    ensures { IsBest cut.now labels.now result }
+{
+    let mut best = None;
+    for place in 0..labels.len() {
+        best = better(best, place, small_value(cut, &labels[place]));
+    }
+    best
+}
+
+/// The outcome that labels with small sums give which cover all fronts.
+fn small_answer(
+    alloc: Global,
+    moves: &SmallMoves,
+    labels: &[Label<SmallState>],
+) -> Result<Outcome, AllocError>
+    requires cut { IsCut moves.now }
+    requires small { HasSmallSums moves.now }
+    requires covers { CoversFronts small_rules (small_moves moves.now) (calls moves.now.problem) labels.now }
+    ensures sigma { IfOk result (λ outcome. sigma_of outcome ≡ sigma moves.now.problem (relaxed moves.now)) }
+    ensures walk { IfOk result (HasWalk moves.now.problem (relaxed moves.now)) }
+{
+    match best_closed_small(moves.cut(), labels) {
+        None => Ok(Outcome::NoWalk),
+        Some(best) => {
+            let walk = front_of(alloc, moves, labels, best.place)?;
+            Ok(Outcome::Best {
+                sigma: best.value,
+                walk: Tour::from_calls(walk),
+            })
+        }
+    }
+}
+
+/// The outcome by rows of bounded length and small sums, None where they keep more than `limit` labels.
+fn replayed_small(
+    alloc: Global,
+    moves: &FlaggedMoves,
+    limit: u64,
+) -> Result<Option<Outcome>, AllocError>
+    requires cut { IsCut moves.now }
+    requires small { HasSmallSums moves.now }
+    ensures { IfOk result (λ found. IfSome found (IsAnswer moves.now limit)) }
+{
+    let small = SmallMoves::of(moves);
+    let hops = small.calls();
+    let Some(found) = cover_fronts(alloc, &small, hops, limit)? else {
+        return Ok(None);
+    };
+    let outcome = small_answer(alloc, &small, found.labels())?;
+    Ok(Some(outcome))
+}
+
+/// The outcome by rows of bounded length, None where they keep more than `limit` labels.
+fn replayed_by_rows(
+    alloc: Global,
+    moves: &FlaggedMoves,
+    limit: u64,
+) -> Result<Option<Outcome>, AllocError>
+    requires { IsCut moves.now }
+    ensures { IfOk result (λ found. IfSome found (IsAnswer moves.now limit)) }
+{
+    if moves.has_small_sums() {
+        return replayed_small(alloc, moves, limit);
+    }
+    let hops = moves.calls();
+    let Some(found) = cover_fronts(alloc, moves, hops, limit)? else {
+        return Ok(None);
+    };
+    let outcome = answer(alloc, moves, found.labels())?;
+    Ok(Some(outcome))
+}
+
+/// The outcome of a replay: by rows of bounded length where these keep at most `limit` labels, and by the settled labels
 /// otherwise, which alone tell whether there are too many.
 fn replayed(alloc: Global, moves: &FlaggedMoves, limit: u64) -> Result<Outcome, ReplayFail>
     requires cut { IsCut moves.now }
-    ensures sigma { IfOk result (λ outcome. sigma_of outcome ≡ sigma moves.now.problem (relaxed moves.now)) }
-    ensures walk { IfOk result (HasWalk moves.now.problem (relaxed moves.now)) }
-    ensures few { OnOk result (¬ HasMoreThan cut_rules (flagged_moves moves.now) limit (calls moves.now.problem)) }
+    ensures answer { IfOk result (IsAnswer moves.now limit) }
     ensures many { result ≡ Err ReplayFail.TooManyLabels → HasMoreThan cut_rules (flagged_moves moves.now) limit (calls moves.now.problem) }
 {
-    let hops = moves.calls();
-    if let Some(found) = cover_fronts(alloc, moves, hops, limit)? {
-        return Ok(answer(alloc, moves, found.labels())?);
+    if let Some(outcome) = replayed_by_rows(alloc, moves, limit)? {
+        return Ok(outcome);
     }
+    let hops = moves.calls();
     let settled = settle(alloc, moves, hops, limit)?;
     Ok(answer(alloc, moves, settled.labels())?)
 }

@@ -24,7 +24,7 @@ pub returns-clause-tours : goal.returns-clause-tours
 returns-clause-tours c =
     let m : Cut = cut c.args.inst.now c.args.ctx.now c.args.price.now c.args.critical.now in
     let moves_is : c.in_ok-moves.moves ≡ m = c.in_ok-moves.ensures ∙ c.new-cut.ensures in
-    subst (BoundsTours m.problem m.price (is_open_tour m.problem m.region)) (sym (c.in_ok-outcome.ensures.sigma ∙ ap (λ n. sigma n.problem (relaxed n)) moves_is))
+    subst (BoundsTours m.problem m.price (is_open_tour m.problem m.region)) (sym (c.in_ok-outcome.ensures.answer.sigma ∙ ap (λ n. sigma n.problem (relaxed n)) moves_is))
     (sigma_bounds_tours m.problem m.region m.price m.critical)
 
 pub returns-clause-few : goal.returns-clause-few
@@ -33,7 +33,7 @@ returns-clause-few c =
     let is : IsCut m = record { instance = c.calls-calls.ensures.instance; proper = c.requires.proper; fit = c.requires.fit; critical = c.requires.critical } in
     let moves_is : c.in_ok-moves.moves ≡ m = c.in_ok-moves.ensures ∙ c.new-cut.ensures in
     few_flagged m is c.args.limit
-    (λ h. c.in_ok-outcome.ensures.few
+    (λ h. c.in_ok-outcome.ensures.answer.few
     (subst (λ n. HasMoreThan cut_rules (flagged_moves n) c.args.limit (calls n.problem)) (sym moves_is) h))
 
 pub returns-clause-within : goal.returns-clause-within
@@ -41,4 +41,4 @@ returns-clause-within c =
     let m : Cut = cut c.args.inst.now c.args.ctx.now c.args.price.now c.args.critical.now in
     let moves_is : c.in_ok-moves.moves ≡ m = c.in_ok-moves.ensures ∙ c.new-cut.ensures in
     outcome_within m.problem m.region m.price c.args.critical.now c.calls-calls.ensures.instance c.requires.fit c.in_ok-outcome.outcome
-    (subst (λ n. HasWalk n.problem (relaxed n) c.in_ok-outcome.outcome) moves_is c.in_ok-outcome.ensures.walk)
+    (subst (λ n. HasWalk n.problem (relaxed n) c.in_ok-outcome.outcome) moves_is c.in_ok-outcome.ensures.answer.walk)
