@@ -40,7 +40,7 @@ top 30 1
 EOF
 "$new" generate 2 30 --format op > "$work/instance"
 {
-    printf 'PARETO 1\ninstance 30 2 100\npoints 1\npoint 0 0 0\nnodes 2\ncut 150 1 0 30'
+    printf 'PARETO 1\ninstance 30 2 100\npoints 1\npoint 0 0 0\nnodes 2\ncut 190 1 0 30'
     printf ' %s' {1..30}
     printf '\nopen\nend\n'
 } > "$work/certificate"
